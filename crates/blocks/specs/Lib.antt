@@ -1,0 +1,11 @@
+pub mod State
+pub mod Search
+pub mod Position
+pub mod Move
+pub mod Tests
+pub mod Deadlock
+pub mod Loop
+pub mod Method
+pub mod Question
+pub mod Answer
+pub mod Sheets

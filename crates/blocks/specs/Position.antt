@@ -1,0 +1,36 @@
+-- Problems, and the blocks that stand right (document 01, "The yard"; document 001, section 2.1).
+-- Document 01 says sheet for problem, now for the initial state. Assumes nothing.
+use Prim.Native.Nat.{ℕ, _≤_}
+use mathlib.Core.Path.{_≡_}
+use mathlib.Core.Logic.{_≢_}
+use lib.ListN.{length}
+use Rattle.blocks.specs.State.{State, support, down, Grounded}
+
+-- A list that is a state of blocks: the plain properties behind questions 4 to 6 (and 7 to 9 for the goal).
+pub record Proper (s : State) : Type 0 where
+  -- question 4: "Is every now entry at most n?"
+  pub entries : (b : ℕ) → support s b ≤ length s
+  -- question 5: "Does each slab carry at most one slab now?"
+  pub carries : (b c : ℕ) → support s b ≡ support s c → support s b ≢ 0 → b ≡ c
+  -- question 6: "Does every slab come down to the ground now?"
+  pub grounded : (b : ℕ) → Grounded s b
+
+-- Two states of the same blocks. The theorems need no bound on their number.
+pub record Problem (s g : State) : Type 0 where
+  pub initial : Proper s
+  pub goal : Proper g
+  pub same : length g ≡ length s
+
+-- document 01: "In demand 3 a sheet is accepted when questions 2 to 9 below all get a yes."
+pub record Accepted (s g : State) : Type 0 where
+  pub small : length s ≤ 4000
+  pub problem : Problem s g
+
+-- document 01: "A slab is in position when it and every slab beneath it, down to the ground, rest now on what they rest on in the goal."
+-- The table is in position.
+pub record InPosition (s g : State) (b : ℕ) : Type 0 where
+  pub agrees : (k : ℕ) → support s (down s k b) ≡ support g (down s k b)
+
+-- document 01: "Otherwise it is misplaced."
+abbrev pub Misplaced : State → State → ℕ → Type 0
+Misplaced s g b = ¬ InPosition s g b

@@ -1,0 +1,61 @@
+-- The notions that the methods ask for, as tests that compute. Each agrees with its notion on proper states (proofs/TestLaws).
+-- Each stands here once: in position, clear, has a constructive move (`readyᵇ`), must be put down first (`stuckᵇ`).
+-- Assumes nothing.
+use Prim.Native.Nat.{ℕ, zero, suc, _+_}
+use mathlib.Core.Bool.{Bool, true, false, not, _&&_, _||_}
+use lib.Dec.{eqb}
+use lib.ListN.{length}
+use Rattle.blocks.specs.State.{State, support, down}
+use Rattle.blocks.specs.Search.{lowest, count}
+
+-- The lowest block that rests on b; 0 where none does. On a proper state no other rests there.
+unfoldable pub load : State → ℕ → ℕ
+load s b = lowest (λ c. eqb (support s c) b) (length s)
+
+-- document 01: "A slab is clear when no slab rests on it. The ground is always clear."
+unfoldable pub clearᵇ : State → ℕ → Bool
+clearᵇ s b = eqb b 0 || eqb (load s b) 0
+
+-- Whether b comes down to the table: no more steps are needed than there are blocks.
+unfoldable pub groundedᵇ : State → ℕ → Bool
+groundedᵇ s b = eqb (down s (length s) b) 0
+
+-- b and the blocks within k steps beneath it rest on what they rest on in the goal.
+unfoldable pub agreesᵇ : State → State → ℕ → ℕ → Bool
+agreesᵇ s g zero b = eqb (support s b) (support g b)
+agreesᵇ s g (suc k) b = eqb (support s b) (support g b) && agreesᵇ s g k (support s b)
+
+-- document 01: in position, and misplaced.
+unfoldable pub inPositionᵇ : State → State → ℕ → Bool
+inPositionᵇ s g b = agreesᵇ s g (length s) b
+
+unfoldable pub misplacedᵇ : State → State → ℕ → Bool
+misplacedᵇ s g b = not (inPositionᵇ s g b)
+
+-- A misplaced clear block.
+unfoldable pub waitingᵇ : State → State → ℕ → Bool
+waitingᵇ s g b = misplacedᵇ s g b && clearᵇ s b
+
+-- b has a constructive move.
+unfoldable pub readyᵇ : State → State → ℕ → Bool
+readyᵇ s g b = waitingᵇ s g b && (clearᵇ s (support g b) && inPositionᵇ s g (support g b))
+
+-- b is one of those that may have to be put down first: a misplaced clear block off the table.
+unfoldable pub stuckᵇ : State → State → ℕ → Bool
+stuckᵇ s g b = waitingᵇ s g b && not (eqb (support s b) 0)
+
+-- How many blocks are misplaced.
+unfoldable pub misplacedCount : State → State → ℕ
+misplacedCount s g = count (misplacedᵇ s g) (length s)
+
+-- document 01: "changed", the count of slabs whose now and goal entries differ.
+unfoldable pub changed : State → State → ℕ
+changed s g = count (λ b. not (eqb (support s b) (support g b))) (length s)
+
+-- A misplaced block that is off the table now and in the goal: where it is put down first it costs a second move.
+unfoldable pub twiceᵇ : State → State → ℕ → Bool
+twiceᵇ s g b = misplacedᵇ s g b && (not (eqb (support s b) 0) && not (eqb (support g b) 0))
+
+-- The measure of the methods: the misplaced blocks, and once more those that are off the table now and in the goal.
+unfoldable pub measure : State → State → ℕ
+measure s g = misplacedCount s g + count (twiceᵇ s g) (length s)

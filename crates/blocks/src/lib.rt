@@ -1,0 +1,1 @@
+// The blocks world of document 01: definitions in specs/, theorems in proofs/. No code.
