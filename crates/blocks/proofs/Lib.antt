@@ -1,1 +1,11 @@
+pub mod Reflect
+pub mod SearchLaws
+pub mod StateLaws
+pub mod FrameLaws
+pub mod TowerLaws
+pub mod GroundLaws
+pub mod ClearLaws
+pub mod PositionLaws
+pub mod ReplayLaws
+pub mod FlatLaws
 pub mod Starred

@@ -7,5 +7,6 @@ pub mod Deadlock
 pub mod Loop
 pub mod Method
 pub mod Question
+pub mod Replay
 pub mod Answer
 pub mod Sheets
