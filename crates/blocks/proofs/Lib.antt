@@ -6,6 +6,12 @@ pub mod TowerLaws
 pub mod GroundLaws
 pub mod ClearLaws
 pub mod PositionLaws
+pub mod DeadlockLaws
+pub mod MisplacedLaws
+pub mod BoundLaws
+pub mod StallLaws
+pub mod MeasureLaws
+pub mod QuestionLaws
 pub mod ReplayLaws
 pub mod FlatLaws
 pub mod Starred

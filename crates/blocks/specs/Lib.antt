@@ -9,4 +9,5 @@ pub mod Method
 pub mod Question
 pub mod Replay
 pub mod Answer
+pub mod Refusal
 pub mod Sheets

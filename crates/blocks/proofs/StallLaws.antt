@@ -1,0 +1,128 @@
+-- The successor in a stalled state (step 9): it is misplaced and clear, above the blocker now, and the block is above the blocker in the goal.
+-- Idea: the top of a misplaced block's tower is misplaced; on the goal support of the lowest misplaced block the goal puts that block only. Assumes nothing.
+use mathlib.Core.Path.{_≡_, refl, sym, ap, _∙_, subst}
+use mathlib.Core.Logic.{_≢_}
+use mathlib.Core.Bool.{Bool, cond}
+use Prim.Native.Nat.{ℕ, zero, suc, _+_, _≤_}
+use native.Mathlib.Omega.{arith}
+use lib.ListN.{length}
+use Rattle.blocks.specs.State.{State, support, down, Above, Clear}
+use Rattle.blocks.specs.Position.{Problem, InPosition, Misplaced}
+use Rattle.blocks.specs.Move.{Constructive}
+use Rattle.blocks.specs.Tests.{load}
+use Rattle.blocks.specs.Loop.{lowestMisplaced, blocker, top, successor}
+use Rattle.blocks.proofs.Reflect.{Reflects, holds, fails}
+use Rattle.blocks.proofs.StateLaws.{down-suc, down-table}
+use Rattle.blocks.proofs.TowerLaws.{Reaches}
+use Rattle.blocks.proofs.GroundLaws.{ground-bound}
+use Rattle.blocks.proofs.ClearLaws.{load-rests, load-block, load-none, clear-reflects, clear-table}
+use Rattle.blocks.proofs.PositionLaws.{position-table, position-beneath, misplaced-block, position-reflects, Waiting, ready-constructive}
+
+-- no block has a constructive move
+abbrev pub Stalled : State → State → Type 0
+Stalled s g = (b : ℕ) → ¬ Constructive s g b (support g b)
+
+-- what is above a block is off the table
+pub above-off-table : {s : State} {a b : ℕ} → Above s a b → support s a ≢ 0
+above-off-table {s} u z = u .block (sym (u .reaches) ∙ ap (down s (u .steps)) z ∙ down-table s (u .steps))
+
+-- at or above, and not at
+reaches-above : {s : State} {a b : ℕ} → Reaches s a b → a ≢ b → b ≢ 0 → Above s a b
+reaches-above {s} {a} {b} r h z = by (r .0) (r .1)
+  where
+    by : (k : ℕ) → down s k a ≡ b → Above s a b
+    by zero e = absurd (h e)
+    by (suc k) e = record { steps = k; reaches = e; block = z }
+
+module _ {s g : State} (p : Problem s g) where
+  -- the climb that has come j steps up from b, to c
+  climb : (b k j c : ℕ) → b ≢ 0 → j + k ≡ length s → c ≤ length s → down s j c ≡ b → Clear s (top s k c) × Reaches s (top s k c) b
+  unfolding top
+  climb b zero j c h e l r =
+      let all : j ≡ length s = omega arith in
+      absurd (h (sym r ∙ ap (λ i. down s i c) all ∙ ground-bound s (p .initial .entries) c l (p .initial .grounded c)))
+  climb b (suc k) j c h e l r = go (clear-reflects s c) (λ low q. climb b k (suc j) (load s c) h (omega arith) low q)
+    where
+      go : {t : Bool} → Reflects (Clear s c) t →
+          (load s c ≤ length s → down s (suc j) (load s c) ≡ b → Clear s (top s k (load s c)) × Reaches s (top s k (load s c)) b) →
+          Clear s (cond t c (top s k (load s c))) × Reaches s (cond t c (top s k (load s c))) b
+      go (holds w) rest = (w, (j, r))
+      go (fails n) rest =
+          let found : load s c ≢ 0 = λ z. n (record { free = λ d q. load-none s c d z q }) in
+          rest (load-block s c found .high) (ap (down s j) (load-rests s c found) ∙ r)
+
+  -- the block found at the top of a tower is clear and stands at or above the block asked for
+  pub top-clear : (b : ℕ) → b ≢ 0 → b ≤ length s → Clear s (top s (length s) b) × Reaches s (top s (length s) b) b
+  top-clear b h l = climb b (length s) 0 b h (omega arith) l refl
+
+  misplaced-nonzero : {b : ℕ} → Misplaced s g b → b ≢ 0
+  misplaced-nonzero m z = m (rw z (position-table s g))
+
+  -- a misplaced block has a misplaced clear one at the top of its tower
+  pub waiting-above : (b : ℕ) → Misplaced s g b → Waiting s g (top s (length s) b)
+  waiting-above b m =
+      let t = top-clear b (misplaced-nonzero m) (misplaced-block (p .same) m .high) in
+      (λ i. m (subst (InPosition s g) (t .1 .1) (position-beneath i (t .1 .0))), t .0)
+
+  -- d is the foot of b: misplaced, in the goal at or beneath b, its goal support in position
+  abbrev Foot : ℕ → ℕ → Type 0
+  Foot b d = Misplaced s g d × InPosition s g (support g d) × Reaches g b d
+
+  descend : (k b : ℕ) → Misplaced s g b → down g k b ≡ 0 → Foot b (lowestMisplaced s g k b)
+  unfolding lowestMisplaced
+  descend zero b m e = absurd (misplaced-nonzero m e)
+  descend (suc k) b m e = go (position-reflects s g (p .initial) (support g b)) (λ n. descend k (support g b) n e)
+    where
+      go : {t : Bool} → Reflects (InPosition s g (support g b)) t →
+          (Misplaced s g (support g b) → Foot (support g b) (lowestMisplaced s g k (support g b))) →
+          Foot b (cond t b (lowestMisplaced s g k (support g b)))
+      go (holds i) rest = (m, i, (0, refl))
+      go (fails n) rest = let f = rest n in (f .0, f .1, (suc (f .2 .0), f .2 .1))
+
+  -- d of document 01
+  pub foot : (b : ℕ) → Misplaced s g b →
+      Misplaced s g (lowestMisplaced s g (length s) b) × InPosition s g (support g (lowestMisplaced s g (length s) b)) ×
+      Reaches g b (lowestMisplaced s g (length s) b)
+  foot b m =
+      let l : b ≤ length g = omega (arith, p .same, misplaced-block (p .same) m .high) in
+      descend (length s) b m (rw (p .same) at (ground-bound g (p .goal .entries) b l (p .goal .grounded b)))
+
+  -- x is in the way of b: the top of its tower waits above it, and b is above it in the goal
+  abbrev Blocks : ℕ → ℕ → Type 0
+  Blocks b x = Waiting s g (top s (length s) x) × Above s (top s (length s) x) x × Above g b x
+
+  -- d is in the way where it is misplaced and not clear
+  misplaced-blocks : (b d : ℕ) → Clear s b → Misplaced s g d → ¬ Clear s d → Reaches g b d → Blocks b d
+  misplaced-blocks b d w m n r =
+      let h : d ≢ 0 = misplaced-nonzero m in
+      let t = top-clear d h (misplaced-block (p .same) m .high) in
+      (waiting-above d m, reaches-above (t .1) (λ e. n (subst (Clear s) e (t .0))) h, reaches-above r (λ e. n (subst (Clear s) e w)) h)
+
+  -- its goal support is in the way where it is not clear
+  support-blocks : (b d : ℕ) → Misplaced s g d → ¬ Clear s (support g d) → Reaches g b d → Blocks b (support g d)
+  support-blocks b d m n r =
+      let h : support g d ≢ 0 = λ z. n (rw z (clear-table s)) in
+      let t = top-clear (support g d) h (omega (arith, p .same, p .goal .entries d)) in
+      let u : Above s (top s (length s) (support g d)) (support g d) = reaches-above (t .1) (λ e. n (subst (Clear s) e (t .0))) h in
+      ((λ i. m (right u i), t .0), u, record { steps = r .0; reaches = down-suc g (r .0) b ∙ ap (support g) (r .1); block = h })
+    where
+      -- what rests on the goal support beneath a block in position is d
+      right : {a : ℕ} → Above s a (support g d) → InPosition s g a → InPosition s g d
+      right {a} u i =
+          let y = down s (u .steps) a in
+          let now : support s y ≡ support g d = sym (down-suc s (u .steps) a) ∙ u .reaches in
+          let there : support g y ≡ support g d = sym (i .agrees (u .steps)) ∙ now in
+          subst (InPosition s g) (p .goal .carries y d there (λ z. u .block (sym there ∙ z))) (position-beneath i (u .steps))
+
+  -- the successor is misplaced and clear, above the blocker now, and b is above the blocker in the goal
+  pub successor-waits : Stalled s g → (b : ℕ) → Waiting s g b →
+      Waiting s g (successor s g b) × Above s (successor s g b) (blocker s g b) × Above g b (blocker s g b)
+  unfolding successor blocker
+  successor-waits still b w = go (clear-reflects s (support g d)) (foot b (w .0))
+    where
+      d : ℕ
+      d = lowestMisplaced s g (length s) b
+
+      go : {t : Bool} → Reflects (Clear s (support g d)) t → Foot b d → Blocks b (cond t d (support g d))
+      go (holds c) f = misplaced-blocks b d (w .1) (f .0) (λ v. still d (ready-constructive p (f .0, v) c (f .1))) (f .2)
+      go (fails n) f = support-blocks b d (f .0) n (f .2)
