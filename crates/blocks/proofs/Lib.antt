@@ -10,8 +10,13 @@ pub mod DeadlockLaws
 pub mod MisplacedLaws
 pub mod BoundLaws
 pub mod StallLaws
+pub mod LoopLaws
 pub mod MeasureLaws
+pub mod RunLaws
+pub mod StepLaws
+pub mod MethodLaws
 pub mod QuestionLaws
 pub mod ReplayLaws
 pub mod FlatLaws
+pub mod AnswerLaws
 pub mod Starred

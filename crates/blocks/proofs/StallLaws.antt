@@ -64,7 +64,7 @@ module _ {s g : State} (p : Problem s g) where
       let t = top-clear b (misplaced-nonzero m) (misplaced-block (p .same) m .high) in
       (λ i. m (subst (InPosition s g) (t .1 .1) (position-beneath i (t .1 .0))), t .0)
 
-  -- d is the foot of b: misplaced, in the goal at or beneath b, its goal support in position
+  -- d is the foot of b
   abbrev Foot : ℕ → ℕ → Type 0
   Foot b d = Misplaced s g d × InPosition s g (support g d) × Reaches g b d
 
@@ -79,7 +79,7 @@ module _ {s g : State} (p : Problem s g) where
       go (holds i) rest = (m, i, (0, refl))
       go (fails n) rest = let f = rest n in (f .0, f .1, (suc (f .2 .0), f .2 .1))
 
-  -- d of document 01
+  -- d of document 01: misplaced, in the goal at or beneath b, its goal support in position
   pub foot : (b : ℕ) → Misplaced s g b →
       Misplaced s g (lowestMisplaced s g (length s) b) × InPosition s g (support g (lowestMisplaced s g (length s) b)) ×
       Reaches g b (lowestMisplaced s g (length s) b)

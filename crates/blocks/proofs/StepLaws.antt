@@ -1,0 +1,135 @@
+-- What the steps of the methods are: constructive moves, and moves of stuck blocks to the table. Assumes nothing.
+use mathlib.Core.Path.{_≡_, refl, sym, ap, _∙_, subst}
+use mathlib.Core.Logic.{inl, inr, _≢_}
+use mathlib.Core.Bool.{Bool, cond}
+use Prim.Native.Nat.{ℕ, zero, suc, _≤_}
+use native.Mathlib.Omega.{arith}
+use lib.ListN.{length}
+use Rattle.blocks.specs.State.{State, support, put}
+use Rattle.blocks.specs.Position.{Problem}
+use Rattle.blocks.specs.Move.{Legal, Constructive, Careful}
+use Rattle.blocks.specs.Tests.{readyᵇ, stuckᵇ, misplacedCount, measure}
+use Rattle.blocks.specs.Method.{stop, noBlock, toTable, toGoal, lowestStuck, lowestReady, clearing, building, solving}
+use Rattle.blocks.proofs.Reflect.{Reflects, holds, fails, from-true, from-false, eqb-reflects}
+use Rattle.blocks.proofs.SearchLaws.{lowest-passes, lowest-none}
+use Rattle.blocks.proofs.ClearLaws.{clear-table}
+use Rattle.blocks.proofs.PositionLaws.{Stuck, stuck-reflects, ready-reflects, position-table, misplaced-block}
+use Rattle.blocks.proofs.StallLaws.{Stalled}
+use Rattle.blocks.proofs.MeasureLaws.{measure-constructive, measure-table}
+use Rattle.blocks.proofs.RunLaws.{Stepping, goes, stops}
+
+-- ---- the lowest ready and the lowest stuck block
+
+module _ {s g : State} (p : Problem s g) where
+  pub ready-found : (i : ℕ) → lowestReady s g ≡ suc i → Constructive s g (suc i) (support g (suc i))
+  unfolding lowestReady
+  ready-found i e =
+      from-true (ready-reflects s g p (suc i)) (ap (readyᵇ s g) (sym e) ∙ lowest-passes (readyᵇ s g) (length s) (λ z. absurd (omega (arith, z, e))))
+
+  pub ready-none : lowestReady s g ≡ 0 → Stalled s g
+  unfolding lowestReady
+  ready-none e b c =
+      from-false (ready-reflects s g p b) (lowest-none (readyᵇ s g) (length s) e b (c .legal .block .low) (c .legal .block .high)) c
+
+  pub stuck-found : (i : ℕ) → lowestStuck s g ≡ suc i → Stuck s g (suc i)
+  unfolding lowestStuck
+  stuck-found i e =
+      from-true (stuck-reflects s g (p .initial) (suc i)) (ap (stuckᵇ s g) (sym e) ∙ lowest-passes (stuckᵇ s g) (length s) (λ z. absurd (omega (arith, z, e))))
+
+  pub stuck-none : lowestStuck s g ≡ 0 → (b : ℕ) → ¬ Stuck s g b
+  unfolding lowestStuck
+  stuck-none e b w =
+      let k = misplaced-block (p .same) (w .0 .0) in
+      from-false (stuck-reflects s g (p .initial) b) (lowest-none (stuckᵇ s g) (length s) e b (k .low) (k .high)) w
+
+  -- a stuck block may go to the table
+  pub stuck-legal : {a : ℕ} → Stuck s g a → Legal s a 0
+  stuck-legal {a} w =
+      let k = misplaced-block (p .same) (w .0 .0) in
+      record {
+        block = k;
+        inside = omega arith;
+        clear = w .0 .1;
+        free = clear-table s;
+        apart = λ e. absurd (omega (arith, e, k .low));
+        changes = λ e. w .1 (sym e);
+      }
+
+-- ---- moves
+
+-- a move of a method: constructive, or of a stuck block to the table, in methods 2 and 3 only where nothing is ready
+pub data Moves (s g : State) (a x : ℕ) : Type 0 where
+  builds : Constructive s g a x → Moves s g a x
+  clears : Stuck s g a → x ≡ 0 → Moves s g a x
+
+module _ {s g : State} {a x : ℕ} (p : Problem s g) where
+  pub moves-legal : Moves s g a x → Legal s a x
+  moves-legal (builds c) = c .legal
+  moves-legal (clears w e) = subst (Legal s a) (sym e) (stuck-legal p w)
+
+  pub moves-careful : Moves s g a x → Careful s g a x
+  moves-careful (builds c) = record { misplaced = c .misplaced; target = inr (c .home) }
+  moves-careful (clears w e) = record { misplaced = w .0 .0; target = inl e }
+
+  -- a put-down takes exactly 1 from the measure, and every move takes some
+  pub clears-measure : Stuck s g a → x ≡ 0 → measure s g ≡ suc (measure (put s a x) g)
+  clears-measure w e =
+      subst (λ y. measure s g ≡ suc (measure (put s a y) g)) (sym e) (measure-table p (stuck-legal p w) (w .0 .0) (w .1))
+
+  pub moves-measure : Moves s g a x → suc (measure (put s a x) g) ≤ measure s g
+  moves-measure (builds c) = measure-constructive p c
+  moves-measure (clears w e) = omega (arith, clears-measure w e)
+
+-- ---- steps
+
+-- the first loop of US puts stuck blocks down until there is none
+pub record PutsDown (s g : State) (a x : ℕ) : Type 0 where
+  pub stuck : Stuck s g a
+  pub table : x ≡ 0
+
+pub clearing-steps : {s g : State} → Problem s g → Stepping (PutsDown s g) ((b : ℕ) → ¬ Stuck s g b) (clearing g s)
+unfolding clearing
+clearing-steps {s} {g} p = by (lowestStuck s g) refl
+  where
+    by : (b : ℕ) → lowestStuck s g ≡ b → Stepping (PutsDown s g) ((c : ℕ) → ¬ Stuck s g c) (toTable b stop)
+    by zero e = stops (stuck-none p e)
+    by (suc i) e = goes (record { stuck = stuck-found p i e; table = refl })
+
+-- constructive moves alone go on until no block has one
+pub building-steps : {s g : State} → Problem s g → Stepping (Constructive s g) (Stalled s g) (building g s)
+unfolding building
+building-steps {s} {g} p = by (lowestReady s g) refl
+  where
+    by : (b : ℕ) → lowestReady s g ≡ b → Stepping (Constructive s g) (Stalled s g) (toGoal g b stop)
+    by zero e = stops (ready-none p e)
+    by (suc i) e = goes (ready-found p i e)
+
+-- methods 2 and 3: a block is put down only in a stalled state with something misplaced
+pub data Solving (s g : State) (a x : ℕ) : Type 0 where
+  builds : Constructive s g a x → Solving s g a x
+  clears : Stalled s g → misplacedCount s g ≢ 0 → Stuck s g a → x ≡ 0 → Solving s g a x
+
+pub solving-moves : {s g : State} {a x : ℕ} → Solving s g a x → Moves s g a x
+solving-moves (Solving.builds c) = Moves.builds c
+solving-moves (Solving.clears h n w e) = Moves.clears w e
+
+-- what is put down is a stuck block, wherever the state is stalled with something misplaced
+abbrev pub Picks : State → (State → State → ℕ) → Type 0
+Picks g putDown = (s : State) → Problem s g → Stalled s g → misplacedCount s g ≢ 0 → Stuck s g (putDown s g)
+
+pub solving-steps : (putDown : State → State → ℕ) {s g : State} → Picks g putDown → Problem s g → Stepping (Solving s g) (misplacedCount s g ≡ 0) (solving putDown g s)
+unfolding solving
+solving-steps putDown {s} {g} picks p = first (eqb-reflects (misplacedCount s g) 0)
+  where
+    third : misplacedCount s g ≢ 0 → Stalled s g → (b : ℕ) → putDown s g ≡ b → Stepping (Solving s g) (misplacedCount s g ≡ 0) (toTable b noBlock)
+    third n h zero e = absurd (picks s p h n .0 .0 (rw e (position-table s g)))
+    third n h (suc i) e = goes (Solving.clears h n (subst (Stuck s g) e (picks s p h n)) refl)
+
+    second : misplacedCount s g ≢ 0 → (b : ℕ) → lowestReady s g ≡ b → Stepping (Solving s g) (misplacedCount s g ≡ 0) (toGoal g b (toTable (putDown s g) noBlock))
+    second n zero e = third n (ready-none p e) (putDown s g) refl
+    second n (suc i) e = goes (Solving.builds (ready-found p i e))
+
+    first : {t : Bool} → Reflects (misplacedCount s g ≡ 0) t
+        → Stepping (Solving s g) (misplacedCount s g ≡ 0) (cond t stop (toGoal g (lowestReady s g) (toTable (putDown s g) noBlock)))
+    first (holds e) = stops e
+    first (fails n) = second n (lowestReady s g) refl
