@@ -9,14 +9,17 @@ pub mod PositionLaws
 pub mod DeadlockLaws
 pub mod MisplacedLaws
 pub mod BoundLaws
+pub mod MovedLaws
 pub mod StallLaws
 pub mod LoopLaws
 pub mod MeasureLaws
 pub mod RunLaws
 pub mod StepLaws
 pub mod MethodLaws
+pub mod DeadlockTestLaws
 pub mod QuestionLaws
 pub mod ReplayLaws
 pub mod FlatLaws
 pub mod AnswerLaws
+pub mod Theorems
 pub mod Starred

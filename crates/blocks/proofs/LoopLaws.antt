@@ -3,7 +3,7 @@
 -- Assumes nothing.
 use mathlib.Core.Path.{_≡_, refl, sym, ap, _∙_, subst}
 use mathlib.Core.Logic.{_⊎_, inl, inr, _≢_}
-use mathlib.Core.Bool.{Bool, true, false, cond, not, _||_, true≢false}
+use mathlib.Core.Bool.{Bool, true, false, cond, not, _||_, true≢false, false≢true, or-true, or-false, or-comm, or-assoc}
 use mathlib.Core.List.{List, [], _∷_, _++_}
 use Prim.Native.Nat.{ℕ, zero, suc, pred, _+_, _≤_, _<_}
 use native.Mathlib.Omega.{arith}
@@ -17,8 +17,8 @@ use Rattle.blocks.specs.Search.{lowest, count}
 use Rattle.blocks.specs.Tests.{waitingᵇ}
 use Rattle.blocks.specs.Loop.{blocker, top, successor, memberᵇ, from, before, walk, loop, lowestOf, onward}
 use Rattle.blocks.specs.Deadlock.{wrap, next, Deadlock}
-use Rattle.blocks.proofs.Reflect.{Reflects, holds, fails, from-true, to-true, to-false, reflects-or, reflects-iff, eqb-reflects, ltb-reflects}
-use Rattle.blocks.proofs.SearchLaws.{lowest-passes, lowest-none, count-all, count-one-more}
+use Rattle.blocks.proofs.Reflect.{Reflects, holds, fails, from-true, to-true, to-false, not-not, reflects-or, reflects-iff, eqb-reflects, leb-reflects, ltb-reflects}
+use Rattle.blocks.proofs.SearchLaws.{lowest-passes, lowest-first, lowest-none, count-all, count-one-more}
 use Rattle.blocks.proofs.PositionLaws.{misplaced-block, Waiting, waiting-reflects, Stuck}
 use Rattle.blocks.proofs.StallLaws.{Stalled, above-off-table, waiting-above, successor-waits}
 
@@ -43,18 +43,16 @@ member-reflects x (y ∷ l) = reflects-iff into out (reflects-or (eqb-reflects x
     out : Entry x (y ∷ l) → (x ≡ y) ⊎ Entry x l
     out m = at (m .0) (m .1) (m .2)
 
-or-true : (t : Bool) → (t || true) ≡ true
-or-true true = refl
-or-true false = refl
+member-append : (x : ℕ) (l m : List ℕ) → memberᵇ x (l ++ m) ≡ (memberᵇ x l || memberᵇ x m)
+member-append x [] m = refl
+member-append x (y ∷ l) m = ap (λ t. eqb x y || t) (member-append x l m) ∙ sym (or-assoc (eqb x y) (memberᵇ x l) (memberᵇ x m))
 
 -- with one more at the end
 member-last : (b : ℕ) (l : List ℕ) → memberᵇ b (l ++ (b ∷ [])) ≡ true
-member-last b [] = ap (λ t. t || false) (to-true (eqb-reflects b b) refl)
-member-last b (y ∷ l) = ap (λ t. eqb b y || t) (member-last b l) ∙ or-true (eqb b y)
+member-last b l = member-append b l (b ∷ []) ∙ ap (λ t. memberᵇ b l || (t || false)) (to-true (eqb-reflects b b) refl) ∙ or-true (memberᵇ b l)
 
 member-other : (c b : ℕ) (l : List ℕ) → c ≢ b → memberᵇ c (l ++ (b ∷ [])) ≡ memberᵇ c l
-member-other c b [] h = ap (λ t. t || false) (to-false (eqb-reflects c b) h)
-member-other c b (y ∷ l) h = ap (λ t. eqb c y || t) (member-other c b l h)
+member-other c b l h = member-append c l (b ∷ []) ∙ ap (λ t. memberᵇ c l || (t || false)) (to-false (eqb-reflects c b) h) ∙ or-false (memberᵇ c l)
 
 -- the parts before x and from x on
 before-from : (x : ℕ) (l : List ℕ) → before x l ++ from x l ≡ l
@@ -261,6 +259,35 @@ onward-closed p c = walk-loop (onward-some c) (onward-walk p c)
 
 pub onward-first : {s g : State} {l : List ℕ} → Problem s g → IsLoop s g l → getD (onward s l) 0 0 ≡ lowestOf s l
 onward-first p c = sym (walk-first (onward-walk p c) (onward-some c))
+
+-- it has the same blocks, so none is below its first
+onward-members : (s : State) (l : List ℕ) (x : ℕ) → memberᵇ x (onward s l) ≡ memberᵇ x l
+unfolding onward
+onward-members s l x =
+    let m = lowestOf s l in
+    member-append x (from m l) (before m l)
+    ∙ or-comm (memberᵇ x (from m l)) (memberᵇ x (before m l))
+    ∙ sym (member-append x (before m l) (from m l))
+    ∙ ap (memberᵇ x) (before-from m l)
+
+pub onward-lowest : {s g : State} {l : List ℕ} → Problem s g → IsLoop s g l → (i : ℕ) → i < length l → getD (onward s l) 0 0 ≤ getD (onward s l) i 0
+unfolding lowestOf
+onward-lowest {s} {g} {l} p c i h = not-not (leb-reflects (getD (onward s l) 0 0) x) (λ n. false≢true (sym (below n) ∙ there))
+  where
+    x : ℕ
+    x = getD (onward s l) i 0
+
+    inside : i < length (onward s l)
+    inside = rw (onward-length s l) h
+
+    low : 1 ≤ x
+    low = misplaced-block (p .same) (onward-closed p c .waiting i inside .0) .low
+
+    there : memberᵇ x l ≡ true
+    there = sym (onward-members s l x) ∙ to-true (member-reflects x (onward s l)) (i, inside, refl)
+
+    below : ¬ (getD (onward s l) 0 0 ≤ x) → memberᵇ x l ≡ false
+    below n = lowest-first (λ b. memberᵇ b l) (length s) x low (omega (arith, n, onward-first p c))
 
 -- ---- a loop is a deadlock
 

@@ -111,7 +111,7 @@ spread-ends {s} {g} p h stalled =
 -- ---- the runs
 
 -- the measure is within the fuel
-enough : {s g : State} → Problem s g → measure s g ≤ fuel s
+pub enough : {s g : State} → Problem s g → measure s g ≤ fuel s
 unfolding fuel
 enough {s} {g} p = omega (arith, measure-le s g (p .initial), misplaced-le s g)
 

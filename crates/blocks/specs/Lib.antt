@@ -10,4 +10,5 @@ pub mod Question
 pub mod Replay
 pub mod Answer
 pub mod Refusal
+pub mod Demands
 pub mod Sheets

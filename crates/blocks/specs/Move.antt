@@ -50,6 +50,11 @@ pub record Solves (s g : State) (p : Plan) : Type 0 where
   pub legal : LegalPlan s p
   pub arrives : after s p ≡ g
 
+-- Block a is moved by the plan.
+pub data Moved (a : ℕ) : Plan → Type 0 where
+  first : {x : ℕ} {p : Plan} → Moved a ((a ⟶ x) ∷ p)
+  later : {b x : ℕ} {p : Plan} → Moved a p → Moved a ((b ⟶ x) ∷ p)
+
 -- What every move of a method is: of a misplaced block, to the table or to its goal support.
 pub record Careful (s g : State) (a x : ℕ) : Type 0 where
   pub misplaced : Misplaced s g a

@@ -1,0 +1,142 @@
+-- The deadlock test agrees with the definition at the start (step 13): constructive moves keep every deadlock and make none. Assumes nothing.
+use mathlib.Core.Path.{_≡_, refl, sym, ap, _∙_, subst}
+use mathlib.Core.Logic.{_≢_, _↔_}
+use mathlib.Core.Bool.{Bool, true, false, cond}
+use mathlib.Core.List.{List, [], _∷_}
+use Prim.Native.Nat.{ℕ, zero, suc, _+_, _*_, _≤_, _<_}
+use native.Mathlib.Omega.{arith}
+use native.Mathlib.Nat.{le-of-suc-le-suc}
+use lib.ListN.{length, getD}
+use Rattle.blocks.specs.State.{State}
+use Rattle.blocks.specs.Position.{Problem}
+use Rattle.blocks.specs.Move.{Plan, Constructive, after}
+use Rattle.blocks.specs.Tests.{misplacedCount}
+use Rattle.blocks.specs.Deadlock.{next, Deadlock, Deadlocked}
+use Rattle.blocks.specs.Loop.{loop, blocker, onward, blockedPairs}
+use Rattle.blocks.specs.Method.{endOf, settled, deadlockLoop, deadlockPairs}
+use Rattle.blocks.specs.Demands.{NoDeadlock, Shown}
+use Rattle.blocks.proofs.Reflect.{Reflects, holds, fails, eqb-reflects}
+use Rattle.blocks.proofs.DeadlockLaws.{deadlock-stands, deadlock-old}
+use Rattle.blocks.proofs.MisplacedLaws.{none-misplaced}
+use Rattle.blocks.proofs.StallLaws.{Stalled}
+use Rattle.blocks.proofs.LoopLaws.{IsLoop, loop-closed, loop-short, onward-closed, onward-length, onward-lowest, loop-deadlock}
+use Rattle.blocks.proofs.RunLaws.{Run, run-end, run-with, run-back}
+use Rattle.blocks.proofs.MethodLaws.{building-runs, enough, some-misplaced}
+
+-- the run of constructive moves to the settled state
+abbrev Builds : State → State → Plan → Type 0
+Builds g s p = Run (λ t. Problem t g) (λ t. Constructive t g) (λ t. Stalled t g) s p
+
+settled-run : {s g : State} → Problem s g → (p : Plan) × (settled s g ≡ after s p) × Builds g s p
+unfolding settled
+settled-run {s} {g} p = let r = building-runs _ s g p (enough p) in (r .0, ap (endOf s) (r .1), r .2)
+
+-- the settled state is stalled or the goal, and has just the deadlocks of the start
+pub record Settled (s g t : State) : Type 0 where
+  pub problem : Problem t g
+  pub stalled : Stalled t g
+  pub keeps : {k : ℕ} {b d : ℕ → ℕ} → Deadlock s g k b d → Deadlock t g k b d
+  pub had : {k : ℕ} {b d : ℕ → ℕ} → Deadlock t g k b d → Deadlock s g k b d
+
+pub settled-is : {s g : State} → Problem s g → Settled s g (settled s g)
+settled-is {s} {g} p = let r = settled-run p in subst (Settled s g) (sym (r .1)) (at (r .0) (r .2))
+  where
+    at : (q : Plan) → Builds g s q → Settled s g (after s q)
+    at q r =
+        record {
+          problem = run-end r .0;
+          stalled = run-end r .1;
+          keeps = λ {k} {b} {d} h. run-end (run-with (λ t. Deadlock t g k b d) (λ t a x i c w. deadlock-stands i w c) h r) .0 .1;
+          had = λ {k} {b} {d} h. run-back (λ t. Deadlock t g k b d) (λ t a x i c w. deadlock-old c w) r h;
+        }
+
+-- ---- the pairs
+
+pairs-at : (s g : State) (l : List ℕ) (i : ℕ) → i < length l
+    → (getD (blockedPairs s g l) (2 * i) 0 ≡ getD l i 0) × (getD (blockedPairs s g l) (2 * i + 1) 0 ≡ blocker s g (getD l i 0))
+unfolding blockedPairs
+pairs-at s g [] i h = absurd (omega arith)
+pairs-at s g (b ∷ l) zero h = (refl, refl)
+pairs-at s g (b ∷ l) (suc i) h =
+    let r = pairs-at s g l i (le-of-suc-le-suc h) in
+    let even : 2 * suc i ≡ suc (suc (2 * i)) = omega arith in
+    let odd : 2 * suc i + 1 ≡ suc (suc (2 * i + 1)) = omega arith in
+    (ap (λ k. getD (b ∷ blocker s g b ∷ blockedPairs s g l) k 0) even ∙ r .0, ap (λ k. getD (b ∷ blocker s g b ∷ blockedPairs s g l) k 0) odd ∙ r .1)
+
+pub pairs-length : (s g : State) (l : List ℕ) → length (blockedPairs s g l) ≡ 2 * length l
+unfolding blockedPairs
+pairs-length s g [] = refl
+pairs-length s g (b ∷ l) = let r = pairs-length s g l in omega arith
+
+-- ---- the test
+
+module _ {s g : State} (p : Problem s g) where
+  w : Settled s g (settled s g)
+  w = settled-is p
+
+  -- what the test gives: nothing where nothing is misplaced in the settled state, else its loop from the lowest number onward
+  pub data Test : List ℕ → Type 0 where
+    clean : misplacedCount (settled s g) g ≡ 0 → Test []
+    looped : misplacedCount (settled s g) g ≢ 0 → Test (onward (settled s g) (loop (settled s g) g))
+
+  tested : Test (deadlockLoop s g)
+  unfolding deadlockLoop
+  tested = by (eqb-reflects (misplacedCount (settled s g) g) 0)
+    where
+      by : {c : Bool} → Reflects (misplacedCount (settled s g) g ≡ 0) c → Test (cond c [] (onward (settled s g) (loop (settled s g) g)))
+      by (holds e) = clean e
+      by (fails n) = looped n
+
+  closed : misplacedCount (settled s g) g ≢ 0 → IsLoop (settled s g) g (loop (settled s g) g)
+  closed n = loop-closed (w .problem) (w .stalled) (some-misplaced (w .problem) n .1)
+
+  -- nothing misplaced, nothing deadlocked
+  none : misplacedCount (settled s g) g ≡ 0 → NoDeadlock s g
+  none e l k = let h = w .keeps (k .holds) in h .misplaced 0 (h .some) (none-misplaced (w .problem) e (getD l 0 0))
+
+  found : (n : misplacedCount (settled s g) g ≢ 0) → Shown s g (onward (settled s g) (loop (settled s g) g)) (blockedPairs (settled s g) g (onward (settled s g) (loop (settled s g) g)))
+  found n =
+      let l = onward (settled s g) (loop (settled s g) g) in
+      let k = loop-deadlock (w .problem) (w .stalled) (onward-closed (w .problem) (closed n)) in
+      record {
+        d = k .0;
+        deadlock = w .had (k .1);
+        slab = λ i h. pairs-at (settled s g) g l i h .0;
+        beside = λ i h. pairs-at (settled s g) g l i h .1 ∙ sym (k .2 i h);
+        lowest = λ i h. onward-lowest (w .problem) (closed n) i (rw (onward-length (settled s g) (loop (settled s g) g)) at h);
+      }
+
+  pub test-none : (length (deadlockLoop s g) ≡ 0) ↔ NoDeadlock s g
+  test-none = by tested
+    where
+      by : {l : List ℕ} → Test l → (length l ≡ 0) ↔ NoDeadlock s g
+      by (clean e) = (λ _. none e, λ _. refl)
+      by (looped n) =
+          let k = found n in
+          (λ z. absurd (omega (arith, z, k .deadlock .some)), λ free. absurd (free (onward (settled s g) (loop (settled s g) g)) (record { d = k .d; holds = k .deadlock })))
+
+  pub test-shown : length (deadlockLoop s g) ≢ 0 → Shown s g (deadlockLoop s g) (deadlockPairs s g)
+  unfolding deadlockPairs
+  test-shown = by tested
+    where
+      by : {l : List ℕ} → Test l → length l ≢ 0 → Shown s g l (blockedPairs (settled s g) g l)
+      by (clean e) h = absurd (h refl)
+      by (looped n) h = found n
+
+  pub test-short : length (deadlockLoop s g) ≤ length s
+  test-short = by tested
+    where
+      by : {l : List ℕ} → Test l → length l ≤ length s
+      by (clean e) = omega arith
+      by (looped n) =
+          omega (
+            arith,
+            onward-length (settled s g) (loop (settled s g) g),
+            loop-short (w .problem) (w .stalled) (some-misplaced (w .problem) n .1),
+            p .same,
+            w .problem .same,
+          )
+
+pub test-fits : (s g : State) → Problem s g → length (deadlockPairs s g) ≤ 2 * length s
+unfolding deadlockPairs
+test-fits s g p = omega (arith, pairs-length (settled s g) g (deadlockLoop s g), test-short p)

@@ -1,0 +1,92 @@
+-- The theorems, statements alone: the three demands and what later work stands on. proofs/Theorems proves the whole record. Assumes nothing.
+-- Read `Problem` as a sheet that is accepted (questions 3 to 9; no bound on the number of blocks is needed), `Solves` as a legal list that arrives.
+use Prim.Native.Nat.{ℕ, suc, _+_, _*_, _%_, _≤_, _<_}
+use mathlib.Core.Path.{_≡_}
+use mathlib.Core.Logic.{_≢_, _↔_}
+use mathlib.Core.Bool.{true}
+use mathlib.Core.List.{List}
+use lib.ListN.{length, getD}
+use Rattle.blocks.specs.State.{State, support, Clear, Grounded}
+use Rattle.blocks.specs.Position.{Proper, Problem, Accepted, InPosition, Misplaced}
+use Rattle.blocks.specs.Move.{Plan, Constructive, CarefulPlan, Moved, Solves}
+use Rattle.blocks.specs.Tests.{clearᵇ, groundedᵇ, inPositionᵇ, readyᵇ, stuckᵇ, misplacedCount, measure}
+use Rattle.blocks.specs.Deadlock.{next, Deadlock, Deadlocked}
+use Rattle.blocks.specs.Method.{Method, Us, plan, outcome, deadlockLoop, deadlockPairs}
+use Rattle.blocks.specs.Question.{firstNo, problemQuestions, allYes, no′, Refused}
+use Rattle.blocks.specs.Replay.{Replayed}
+use Rattle.blocks.specs.Refusal.{PlanRefused, DeadlockRefused, ReplayRefused}
+use Rattle.blocks.specs.Answer.{planQuestions, planAnswer, planSpace, deadlockQuestions, deadlockAnswer, deadlockSpace, replayFrom, replayQuestions, replayAnswer}
+
+-- "without a deadlock at the start": no blocks are deadlocked.
+abbrev pub NoDeadlock : State → State → Type 0
+NoDeadlock s g = (blocks : List ℕ) → ¬ Deadlocked s g blocks
+
+-- Demand 3 of a plan p that method m writes.
+pub record Promise (m : Method) (s g : State) (p : Plan) : Type 0 where
+  -- "Every list written for an accepted sheet is legal and arrives."
+  pub solves : Solves s g p
+  -- "For any legal list that arrives, of L lifts: US, GN1 and GN2 write at most 2 × L";
+  pub twice : (q : Plan) → Solves s g q → length p ≤ 2 * length q
+  -- "without a deadlock at the start GN1 and GN2 write at most L";
+  pub once : m ≢ Us → NoDeadlock s g → (q : Plan) → Solves s g q → length p ≤ length q
+  -- "with one, L is more than the number of slabs misplaced at the start."
+  pub costs : (blocks : List ℕ) → Deadlocked s g blocks → (q : Plan) → Solves s g q → misplacedCount s g < length q
+
+-- What else holds of the plan that method m writes: later work stands on it.
+pub record Economy (m : Method) (s g : State) (p : Plan) : Type 0 where
+  -- only misplaced blocks are moved, to the table or to their goal support
+  pub careful : CarefulPlan s g p
+  pub only : (a : ℕ) → Moved a p → Misplaced s g a
+  -- the measure bounds the moves, and is their number for US
+  pub bound : length p ≤ measure s g
+  pub exact : m ≡ Us → length p ≡ measure s g
+  -- without a deadlock GN1 and GN2 write as many moves as blocks are misplaced
+  pub fewest : m ≢ Us → NoDeadlock s g → length p ≡ misplacedCount s g
+
+-- What the deadlock test shows, in document 01's letters: the blocks of the loop are b1 to bp, and beside each stands the next d.
+pub record Shown (s g : State) (blocks pairs : List ℕ) : Type 0 where
+  pub d : ℕ → ℕ
+  pub deadlock : Deadlock s g (length blocks) (λ i. getD blocks i 0) d
+  pub slab : (i : ℕ) → i < length blocks → getD pairs (2 * i) 0 ≡ getD blocks i 0
+  pub beside : (i : ℕ) → i < length blocks → getD pairs (2 * i + 1) 0 ≡ d (next (length blocks) i)
+  -- "written from its lowest number onward"
+  pub lowest : (i : ℕ) → i < length blocks → getD blocks 0 0 ≤ getD blocks i 0
+
+pub record Theorems : Type 0 where
+  -- ---- the tests agree with the notions
+  pub position-test : (s g : State) → Proper s → (b : ℕ) → (inPositionᵇ s g b ≡ true) ↔ InPosition s g b
+  pub clear-test : (s : State) (b : ℕ) → (clearᵇ s b ≡ true) ↔ Clear s b
+  pub ready-test : (s g : State) → Problem s g → (b : ℕ) → (readyᵇ s g b ≡ true) ↔ Constructive s g b (support g b)
+  pub stuck-test : (s g : State) → Proper s → (b : ℕ) → (stuckᵇ s g b ≡ true) ↔ ((Misplaced s g b × Clear s b) × (support s b ≢ 0))
+  pub grounded-test : (s : State) → ((b : ℕ) → support s b ≤ length s) → (b : ℕ) → b ≤ length s → (groundedᵇ s b ≡ true) ↔ Grounded s b
+  -- ---- demand 1: refusals
+  -- questions 2 to 9 are all answered yes exactly on accepted problems; the first "no" is what the plain sentences say
+  pub accepts : (s g : State) → (firstNo (problemQuestions s g) ≡ allYes) ↔ Accepted s g
+  pub refuses : (s g : State) (k p : ℕ) → (firstNo (problemQuestions s g) ≡ no′ k p) ↔ Refused s g k p
+  pub plan-refuses : (m : ℕ) (s g : State) (space : List ℕ) (k p : ℕ) → (firstNo (planQuestions m s g space) ≡ no′ k p) ↔ PlanRefused m s g space k p
+  pub deadlock-refuses : (s g : State) (space : List ℕ) (k p : ℕ) → (firstNo (deadlockQuestions s g space) ≡ no′ k p) ↔ DeadlockRefused s g space k p
+  pub replay-refuses : (s g : State) (lifts : List ℕ) (k p : ℕ) → (firstNo (replayQuestions s g lifts) ≡ no′ k p) ↔ ReplayRefused s g lifts k p
+  -- a refusal answers its number and place, counts 0, and leaves the lent space as it was
+  pub plan-refusal : (m : ℕ) (s g : State) (space : List ℕ) (k p : ℕ) → PlanRefused m s g space k p
+      → (planAnswer m s g space ≡ record { number = k; place = p; count = 0; changed = 0 }) × (planSpace m s g space ≡ space)
+  pub deadlock-refusal : (s g : State) (space : List ℕ) (k p : ℕ) → DeadlockRefused s g space k p
+      → (deadlockAnswer s g space ≡ record { number = k; place = p; count = 0 }) × (deadlockSpace s g space ≡ space)
+  pub replay-refusal : (s g : State) (lifts : List ℕ) (k p : ℕ) → ReplayRefused s g lifts k p
+      → replayAnswer s g lifts ≡ record { number = k; verdict = 0; place = p }
+  -- question 13 is never answered no
+  pub never-13 : (m : ℕ) (s g : State) (space : List ℕ) (p : ℕ) → ¬ PlanRefused m s g space 13 p
+  -- ---- demand 2: replay and the deadlock test
+  -- each verdict and place exactly where its sentence holds; verdict 0 exactly when the plan is legal and ends in the goal
+  pub replay-verdict : (s g : State) → length g ≡ length s → (p : Plan) (v k : ℕ)
+      → (replayFrom 1 s g p ≡ record { number = 0; verdict = v; place = k }) ↔ Replayed s g p v k
+  pub replay-arrives : (s g : State) → length g ≡ length s → (p : Plan) → ((replayFrom 1 s g p) .verdict ≡ 0) ↔ Solves s g p
+  -- the test says none exactly when nothing is deadlocked at the start; what it shows otherwise is deadlocked at the start
+  pub deadlock-none : (s g : State) → Problem s g → (length (deadlockLoop s g) ≡ 0) ↔ NoDeadlock s g
+  pub deadlock-shown : (s g : State) → Problem s g → length (deadlockLoop s g) ≢ 0 → Shown s g (deadlockLoop s g) (deadlockPairs s g)
+  pub deadlock-fits : (s g : State) → Problem s g → length (deadlockPairs s g) ≤ 2 * length s
+  -- ---- demand 3: every method gives a plan, and keeps the promise
+  pub demand : (m : Method) (s g : State) → Problem s g → (p : Plan) × (outcome m s g ≡ plan p) × Promise m s g p × Economy m s g p
+  pub plan-fits : (m : Method) (s g : State) → Problem s g → (p : Plan) → outcome m s g ≡ plan p → 2 * length p ≤ 4 * length s
+  -- every legal plan that arrives moves every misplaced block, and so has at least as many moves
+  pub moves-all : (s g : State) → Problem s g → (q : Plan) → Solves s g q → (b : ℕ) → Misplaced s g b → Moved b q
+  pub lower-bound : (s g : State) → Problem s g → (q : Plan) → Solves s g q → misplacedCount s g ≤ length q
