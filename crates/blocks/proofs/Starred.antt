@@ -1,4 +1,4 @@
--- The starred sheets of document 01, proved together by computation. Assumes nothing.
+-- The starred sheets of document 01, and those that settle a choice, proved together by computation. Assumes nothing.
 use mathlib.Core.Path.{refl}
 use Rattle.blocks.specs.Search.{lowest, count}
 use Rattle.blocks.specs.Tests.{load, clearᵇ, groundedᵇ, agreesᵇ, inPositionᵇ, misplacedᵇ, waitingᵇ, readyᵇ, stuckᵇ, misplacedCount, changed}
@@ -6,8 +6,11 @@ use Rattle.blocks.specs.Loop.{lowestMisplaced, blocker, top, successor, 
 use Rattle.blocks.specs.Method.{iterate, fuel, lowestStuck, lowestReady, lowestOnLoop, clearing, building, solving, outcome, settled, deadlockLoop, deadlockPairs}
 use Rattle.blocks.specs.Question.{badEntry, sharesᵇ, badSupport, ungrounded, stateQuestions, problemQuestions}
 use Rattle.blocks.specs.Answer.{checkAnswer}
-use Rattle.blocks.specs.Sheets.{starred, AllHold}
+use Rattle.blocks.specs.Sheets.{starred, trials, AllHold}
 
-pub starred-hold : AllHold starred
+pub sheets-hold : AllHold starred × AllHold trials
 unfolding lowest count load clearᵇ groundedᵇ agreesᵇ inPositionᵇ misplacedᵇ waitingᵇ readyᵇ stuckᵇ misplacedCount changed lowestMisplaced blocker top successor walk loop lowestOf onward blockedPairs iterate fuel lowestStuck lowestReady lowestOnLoop clearing building solving outcome settled deadlockLoop deadlockPairs badEntry sharesᵇ badSupport ungrounded stateQuestions problemQuestions checkAnswer
-starred-hold = (refl, (refl, (refl, (refl, (refl, (refl, (refl, (refl, (refl, (refl, (refl, (refl, (refl, (refl, (refl, (refl, (refl, (refl, (refl, (refl, (refl, (refl, tt))))))))))))))))))))))
+sheets-hold = (
+  (refl, (refl, (refl, (refl, (refl, (refl, (refl, (refl, (refl, (refl, (refl, (refl, (refl, (refl, (refl, (refl, (refl, (refl, (refl, (refl, (refl, (refl, tt)))))))))))))))))))))),
+  (refl, (refl, (refl, (refl, tt)))),
+)

@@ -1,19 +1,21 @@
 -- The theorems of specs/Demands, proved: each is a law of one of the files beside this one. Assumes nothing.
-use mathlib.Core.Path.{_≡_, refl, ap}
+use mathlib.Core.Path.{_≡_, refl, sym, ap, ap₂, _∙_}
 use mathlib.Core.Logic.{_↔_, _≢_}
 use mathlib.Core.Bool.{Bool, true}
-use mathlib.Core.List.{List}
+use mathlib.Core.List.{List, _++_}
 use mathlib.Core.Option.{Option, none, some}
-use Prim.Native.Nat.{ℕ, _*_, _≤_}
+use Prim.Native.Nat.{ℕ, _*_, _%_, _≤_}
 use native.Mathlib.Omega.{arith}
-use lib.ListN.{length}
+use lib.ListN.{length, drop}
 use Rattle.blocks.specs.State.{State}
-use Rattle.blocks.specs.Position.{Problem}
+use Rattle.blocks.specs.Position.{Problem, Accepted}
 use Rattle.blocks.specs.Move.{Plan}
-use Rattle.blocks.specs.Method.{Method, plan, nothingToPutDown, outcome}
-use Rattle.blocks.specs.Question.{Refused, BadState}
-use Rattle.blocks.specs.Refusal.{PlanRefused}
-use Rattle.blocks.specs.Answer.{planOutcome, methodOf, outcomeBy}
+use Rattle.blocks.specs.Method.{Method, Us, Gn1, Gn2, plan, nothingToPutDown, outcome, settled, deadlockLoop, deadlockPairs}
+use Rattle.blocks.specs.Tests.{changed}
+use Rattle.blocks.specs.Question.{Refused, BadState, allYes, firstNo}
+use Rattle.blocks.specs.Replay.{Replayed}
+use Rattle.blocks.specs.Refusal.{PlanRefused, IsMethod}
+use Rattle.blocks.specs.Answer.{flat, moves, methodOf, numberOf, outcomeBy, planOf, planOutcome, planQuestions, planned, written, planAnswer, planSpace, tested, deadlockQuestions, deadlockAnswer, deadlockSpace, replayed, replayFrom, replayAnswer}
 use Rattle.blocks.specs.Demands.{Promise, Economy, Theorems}
 use Rattle.blocks.proofs.Reflect.{Reflects, from-true, to-true}
 use Rattle.blocks.proofs.GroundLaws.{grounded-reflects}
@@ -23,7 +25,8 @@ use Rattle.blocks.proofs.BoundLaws as bounds
 use Rattle.blocks.proofs.MovedLaws.{arriving-moves-all, careful-moves-only}
 use Rattle.blocks.proofs.MeasureLaws.{measure-le, misplaced-le}
 use Rattle.blocks.proofs.MethodLaws.{Written, method-written}
-use Rattle.blocks.proofs.DeadlockTestLaws.{test-none, test-shown, test-fits}
+use Rattle.blocks.proofs.DeadlockTestLaws.{test-none, test-shown, test-fits, pairs-length}
+use Rattle.blocks.proofs.FlatLaws.{length-flat}
 use Rattle.blocks.proofs.QuestionLaws.{questions-accept, questions-refuse}
 use Rattle.blocks.proofs.ReplayLaws.{replay-says, replay-arrives}
 use Rattle.blocks.proofs.AnswerLaws as answers
@@ -90,6 +93,55 @@ never m s g space p r = by r refl
     by (PlanRefused.room i a h) e = absurd (omega arith)
     by (PlanRefused.stuck i a h o) e = given (methodOf m) s g (a .problem) o
 
+-- ---- answers
+
+method-back : (m : Method) → methodOf (numberOf m) ≡ some m
+method-back Us = refl
+method-back Gn1 = refl
+method-back Gn2 = refl
+
+is-method : (m : Method) → IsMethod (numberOf m)
+is-method Us = record { low = omega arith; high = omega arith }
+is-method Gn1 = record { low = omega arith; high = omega arith }
+is-method Gn2 = record { low = omega arith; high = omega arith }
+
+plan-given : (m : Method) (s g : State) (space : List ℕ) → Accepted s g → 4 * length s ≤ length space → (p : Plan) → outcome m s g ≡ plan p
+    → (planAnswer (numberOf m) s g space ≡ record { number = 0; place = 0; count = length p; changed = changed s g })
+    × (planSpace (numberOf m) s g space ≡ flat p ++ drop (2 * length p) space)
+unfolding planAnswer planSpace planOutcome
+plan-given m s g space a h p e = (
+  ap₂ (λ v o. planned v s g (planOf o)) yes-all same,
+  ap₂ (λ v o. written v (flat (planOf o)) space) yes-all same ∙ ap (λ k. flat p ++ drop k space) (length-flat p),
+)
+  where
+    same : outcomeBy (methodOf (numberOf m)) s g ≡ plan p
+    same = ap (λ o. outcomeBy o s g) (method-back m) ∙ e
+
+    yes-all : firstNo (planQuestions (numberOf m) s g space) ≡ allYes
+    yes-all = answers.plan-answered (numberOf m) s g space .1 (is-method m, a, h, (p, same))
+
+deadlock-given : (s g : State) (space : List ℕ) → Accepted s g → 2 * length s ≤ length space
+    → (deadlockAnswer s g space ≡ record { number = 0; place = 0; count = length (deadlockLoop s g) })
+    × (deadlockSpace s g space ≡ deadlockPairs s g ++ drop (2 * length (deadlockLoop s g)) space)
+unfolding deadlockAnswer deadlockSpace deadlockPairs
+deadlock-given s g space a h = (
+  ap (λ v. tested v (deadlockLoop s g)) yes-all,
+  ap (λ v. written v (deadlockPairs s g) space) yes-all
+      ∙ ap (λ k. deadlockPairs s g ++ drop k space) (pairs-length (settled s g) g (deadlockLoop s g)),
+)
+  where
+    yes-all : firstNo (deadlockQuestions s g space) ≡ allYes
+    yes-all = answers.deadlock-answered s g space .1 (a, h)
+
+replay-given : (s g : State) (lifts : List ℕ) → Accepted s g → length lifts % 2 ≡ 0 → (v k : ℕ)
+    → (replayAnswer s g lifts ≡ record { number = 0; verdict = v; place = k }) ↔ Replayed s g (moves lifts) v k
+unfolding replayAnswer
+replay-given s g lifts a h v k =
+    let same : replayAnswer s g lifts ≡ replayFrom 1 s g (moves lifts) =
+    ap (λ w. replayed w (replayFrom 1 s g (moves lifts))) (answers.replay-answered s g lifts .1 (a, h)) in
+    let r = replay-says s g (a .problem .same) (moves lifts) v k in
+    (λ e. r .0 (sym same ∙ e), λ w. same ∙ r .1 w)
+
 pub theorems : Theorems
 theorems =
     record {
@@ -106,6 +158,9 @@ theorems =
       plan-refusal = answers.plan-refusal;
       deadlock-refusal = answers.deadlock-refusal;
       replay-refusal = answers.replay-refusal;
+      plan-answers = plan-given;
+      deadlock-answers = deadlock-given;
+      replay-answers = replay-given;
       never-13 = never;
       replay-verdict = replay-says;
       replay-arrives = replay-arrives;

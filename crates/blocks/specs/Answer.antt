@@ -59,6 +59,12 @@ methodOf (suc (suc zero)) = some Gn1
 methodOf (suc (suc (suc zero))) = some Gn2
 methodOf (suc (suc (suc (suc m)))) = none
 
+-- The number of a method.
+abbrev pub numberOf : Method → ℕ
+numberOf Us = 1
+numberOf Gn1 = 2
+numberOf Gn2 = 3
+
 -- Its outcome; without a method no plan is asked for.
 abbrev pub outcomeBy : Option Method → State → State → Outcome
 outcomeBy none s g = plan []

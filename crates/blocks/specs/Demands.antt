@@ -4,18 +4,18 @@ use Prim.Native.Nat.{ℕ, suc, _+_, _*_, _%_, _≤_, _<_}
 use mathlib.Core.Path.{_≡_}
 use mathlib.Core.Logic.{_≢_, _↔_}
 use mathlib.Core.Bool.{true}
-use mathlib.Core.List.{List}
-use lib.ListN.{length, getD}
+use mathlib.Core.List.{List, _++_}
+use lib.ListN.{length, getD, drop}
 use Rattle.blocks.specs.State.{State, support, Clear, Grounded}
 use Rattle.blocks.specs.Position.{Proper, Problem, Accepted, InPosition, Misplaced}
 use Rattle.blocks.specs.Move.{Plan, Constructive, CarefulPlan, Moved, Solves}
-use Rattle.blocks.specs.Tests.{clearᵇ, groundedᵇ, inPositionᵇ, readyᵇ, stuckᵇ, misplacedCount, measure}
+use Rattle.blocks.specs.Tests.{clearᵇ, groundedᵇ, inPositionᵇ, readyᵇ, stuckᵇ, misplacedCount, changed, measure}
 use Rattle.blocks.specs.Deadlock.{next, Deadlock, Deadlocked}
 use Rattle.blocks.specs.Method.{Method, Us, plan, outcome, deadlockLoop, deadlockPairs}
 use Rattle.blocks.specs.Question.{firstNo, problemQuestions, allYes, no′, Refused}
 use Rattle.blocks.specs.Replay.{Replayed}
 use Rattle.blocks.specs.Refusal.{PlanRefused, DeadlockRefused, ReplayRefused}
-use Rattle.blocks.specs.Answer.{planQuestions, planAnswer, planSpace, deadlockQuestions, deadlockAnswer, deadlockSpace, replayFrom, replayQuestions, replayAnswer}
+use Rattle.blocks.specs.Answer.{numberOf, flat, moves, planQuestions, planAnswer, planSpace, deadlockQuestions, deadlockAnswer, deadlockSpace, replayFrom, replayQuestions, replayAnswer}
 
 -- "without a deadlock at the start": no blocks are deadlocked.
 abbrev pub NoDeadlock : State → State → Type 0
@@ -73,6 +73,15 @@ pub record Theorems : Type 0 where
       → (deadlockAnswer s g space ≡ record { number = k; place = p; count = 0 }) × (deadlockSpace s g space ≡ space)
   pub replay-refusal : (s g : State) (lifts : List ℕ) (k p : ℕ) → ReplayRefused s g lifts k p
       → replayAnswer s g lifts ≡ record { number = k; verdict = 0; place = p }
+  -- and otherwise the answer is given, with what the lent space then holds
+  pub plan-answers : (m : Method) (s g : State) (space : List ℕ) → Accepted s g → 4 * length s ≤ length space → (p : Plan) → outcome m s g ≡ plan p
+      → (planAnswer (numberOf m) s g space ≡ record { number = 0; place = 0; count = length p; changed = changed s g })
+      × (planSpace (numberOf m) s g space ≡ flat p ++ drop (2 * length p) space)
+  pub deadlock-answers : (s g : State) (space : List ℕ) → Accepted s g → 2 * length s ≤ length space
+      → (deadlockAnswer s g space ≡ record { number = 0; place = 0; count = length (deadlockLoop s g) })
+      × (deadlockSpace s g space ≡ deadlockPairs s g ++ drop (2 * length (deadlockLoop s g)) space)
+  pub replay-answers : (s g : State) (lifts : List ℕ) → Accepted s g → length lifts % 2 ≡ 0 → (v k : ℕ)
+      → (replayAnswer s g lifts ≡ record { number = 0; verdict = v; place = k }) ↔ Replayed s g (moves lifts) v k
   -- question 13 is never answered no
   pub never-13 : (m : ℕ) (s g : State) (space : List ℕ) (p : ℕ) → ¬ PlanRefused m s g space 13 p
   -- ---- demand 2: replay and the deadlock test

@@ -2,16 +2,17 @@
 use Prim.Native.Nat.{ℕ}
 use mathlib.Core.Path.{_≡_}
 use mathlib.Core.List.{List, [], _∷_}
-use lib.ListN.{length, replicate}
+use lib.ListN.{length, take, replicate}
 use Rattle.blocks.specs.State.{State}
-use Rattle.blocks.specs.Move.{Plan, _⟶_}
+use Rattle.blocks.specs.Move.{Move, Plan, _⟶_}
 use Rattle.blocks.specs.Tests.{changed, misplacedCount}
 use Rattle.blocks.specs.Method.{Method, Us, Gn1, Gn2, outcome, plan, deadlockPairs}
-use Rattle.blocks.specs.Answer.{planOf, checkAnswer, planAnswer}
+use Rattle.blocks.specs.Answer.{planOf, checkAnswer}
 
 -- One claim of the table.
 pub data Claim : Type 0 where
   gives : State → State → Method → Plan → Claim  -- the method gives this plan
+  begins : State → State → Method → Move → Claim  -- the method begins with this move
   takes : State → State → Method → ℕ → Claim  -- the method takes so many moves
   shows : State → State → List ℕ → Claim  -- the deadlock test shows these pairs, or none
   changes : State → State → ℕ → Claim  -- so many entries differ
@@ -20,6 +21,7 @@ pub data Claim : Type 0 where
 
 abbrev pub Holds : Claim → Type 0
 Holds (gives s g m p) = outcome m s g ≡ plan p
+Holds (begins s g m v) = take 1 (planOf (outcome m s g)) ≡ v ∷ []
 Holds (takes s g m l) = length (planOf (outcome m s g)) ≡ l
 Holds (shows s g l) = deadlockPairs s g ≡ l
 Holds (changes s g c) = changed s g ≡ c
@@ -62,4 +64,15 @@ starred =
     refuses (2 ∷ 1 ∷ 5 ∷ []) 4 3 ∷
     refuses (0 ∷ 1 ∷ 1 ∷ []) 5 3 ∷
     refuses (1 ∷ []) 6 1 ∷
+    []
+
+-- Sheets that settle what document 01 decides where document 001 leaves a choice (docs/DECISIONS.md, 2 and 5).
+abbrev pub trials : List Claim
+trials =
+    -- the walk starts at the lowest misplaced clear block, on or off the table, and the lowest on the loop is put down
+    begins (0 ∷ 6 ∷ 7 ∷ 8 ∷ 9 ∷ 0 ∷ 0 ∷ 0 ∷ 0 ∷ []) (8 ∷ 7 ∷ 6 ∷ 9 ∷ 1 ∷ 0 ∷ 0 ∷ 0 ∷ 0 ∷ []) Gn2 (4 ⟶ 0) ∷
+    takes (0 ∷ 0 ∷ 2 ∷ 5 ∷ 1 ∷ []) (0 ∷ 0 ∷ 1 ∷ 2 ∷ 4 ∷ []) Gn2 4 ∷
+    -- method 3 may write more moves than method 2
+    takes (3 ∷ 0 ∷ 4 ∷ 0 ∷ 2 ∷ 1 ∷ []) (2 ∷ 0 ∷ 1 ∷ 0 ∷ 4 ∷ 5 ∷ []) Gn1 6 ∷
+    takes (3 ∷ 0 ∷ 4 ∷ 0 ∷ 2 ∷ 1 ∷ []) (2 ∷ 0 ∷ 1 ∷ 0 ∷ 4 ∷ 5 ∷ []) Gn2 7 ∷
     []
