@@ -10,7 +10,7 @@ use Rattle.blocks.specs.State.{State}
 use Rattle.blocks.specs.Position.{Accepted}
 use Rattle.blocks.specs.Move.{Plan}
 use Rattle.blocks.specs.Method.{Outcome, plan, nothingToPutDown}
-use Rattle.blocks.specs.Question.{Question, asks, Verdict, allYes, no′, firstNo, problemQuestions}
+use Rattle.blocks.specs.Question.{Question, asks, Asked, allYes, no′, firstNo, problemQuestions}
 use Rattle.blocks.specs.Question.{BadState, entry, shares, floats, Refused, long, uneven, initial, goal}
 use Rattle.blocks.specs.Answer.{methodOf, isMethod, isPlan, planOutcome, planQuestions, planAnswer, planSpace}
 use Rattle.blocks.specs.Answer.{deadlockQuestions, deadlockAnswer, deadlockSpace, replayQuestions, replayAnswer}
@@ -71,7 +71,7 @@ append-decides : {qs rs : List Question} {P Q : Type 0} {R S : ℕ → ℕ → T
     → Decides qs P R → Decides rs Q S → Decides (qs ++ rs) (P × Q) (Either P R S)
 append-decides {qs} {rs} {P} {Q} {R} {S} d f = go (firstNo qs) refl
   where
-    go : (v : Verdict) → firstNo qs ≡ v → Decides (qs ++ rs) (P × Q) (Either P R S)
+    go : (v : Asked) → firstNo qs ≡ v → Decides (qs ++ rs) (P × Q) (Either P R S)
     go allYes e = record {
       yes = (λ h. (d .yes .0 e, f .yes .0 (sym same ∙ h)), λ h. same ∙ f .yes .1 (h .1));
       no = λ k p. (λ h. inr (d .yes .0 e, f .no k p .0 (sym same ∙ h)), out);
@@ -112,12 +112,12 @@ method-reflects (suc (suc zero)) = holds (record { low = omega arith; high = ome
 method-reflects (suc (suc (suc zero))) = holds (record { low = omega arith; high = omega arith })
 method-reflects (suc (suc (suc (suc m)))) = fails (λ h. omega (arith, h .high))
 
-stuck-never : {p : Plan} → nothingToPutDown ≡ plan p → ⊥
-stuck-never e = let z : _≡_ {A = ℕ} 0 1 = cc in omega arith
+nothing-is-no-plan : {p : Plan} → nothingToPutDown ≡ plan p → ⊥
+nothing-is-no-plan e = let z : _≡_ {A = ℕ} 0 1 = cc in omega arith
 
 plan-reflects : (o : Outcome) → Reflects ((p : Plan) × (o ≡ plan p)) (isPlan o)
 plan-reflects (plan p) = holds (p, refl)
-plan-reflects nothingToPutDown = fails (λ h. stuck-never (h .1))
+plan-reflects nothingToPutDown = fails (λ h. nothing-is-no-plan (h .1))
 
 no-plan : (o : Outcome) → ¬ ((p : Plan) × (o ≡ plan p)) → o ≡ nothingToPutDown
 no-plan (plan p) n = absurd (n (p, refl))
@@ -137,13 +137,13 @@ module _ (m : ℕ) (s g : State) (space : List ℕ) where
   plan-into (inl (only n)) = PlanRefused.method n
   plan-into (inr (h, inl r)) = PlanRefused.problem h r
   plan-into (inr (h, inr (a, inl (only n)))) = PlanRefused.room h a (omega (arith, n))
-  plan-into (inr (h, inr (a, inr (l, only n)))) = PlanRefused.stuck h a l (no-plan (planOutcome m s g) n)
+  plan-into (inr (h, inr (a, inr (l, only n)))) = PlanRefused.noBlock h a l (no-plan (planOutcome m s g) n)
 
   plan-out : {k p : ℕ} → PlanRefused m s g space k p → PlanNo k p
   plan-out (PlanRefused.method n) = inl (only n)
   plan-out (PlanRefused.problem h r) = inr (h, inl r)
   plan-out (PlanRefused.room h a l) = inr (h, inr (a, inl (only (omega arith))))
-  plan-out (PlanRefused.stuck h a l e) = inr (h, inr (a, inr (l, only (λ w. stuck-never (sym e ∙ w .1)))))
+  plan-out (PlanRefused.noBlock h a l e) = inr (h, inr (a, inr (l, only (λ w. nothing-is-no-plan (sym e ∙ w .1)))))
 
   plan-decides : Decides (planQuestions m s g space) (IsMethod m × (Accepted s g × ((4 * length s ≤ length space) × Planned))) (PlanRefused m s g space)
   unfolding planQuestions

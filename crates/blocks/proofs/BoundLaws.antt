@@ -1,13 +1,13 @@
 -- Lower bounds on every legal plan that arrives: it has at least as many moves as there are misplaced blocks (step 3), and more where a deadlock
 -- stands at the start (step 7). By induction on the plan, a move at a time. Assumes nothing.
-use mathlib.Core.Path.{_≡_, refl, sym, ap, _∙_, subst}
+use mathlib.Core.Path.{sym, ap, _∙_, subst}
 use mathlib.Core.List.{[], _∷_}
-use Prim.Native.Nat.{ℕ, zero, suc, _≤_, _<_}
+use Prim.Native.Nat.{ℕ, suc, _≤_, _<_}
 use native.Mathlib.Omega.{arith}
 use lib.ListN.{length}
 use Rattle.blocks.specs.State.{State, put}
 use Rattle.blocks.specs.Position.{Problem, InPosition}
-use Rattle.blocks.specs.Move.{_⟶_, Plan, Legal, Constructive, Solves}
+use Rattle.blocks.specs.Move.{_⟶_, Plan, Solves}
 use Rattle.blocks.specs.Tests.{misplacedCount}
 use Rattle.blocks.specs.Deadlock.{Deadlock}
 use Rattle.blocks.proofs.FrameLaws.{problem-moved}

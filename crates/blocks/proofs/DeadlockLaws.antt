@@ -1,12 +1,11 @@
 -- Deadlocks under moves (steps 5, 6 and 8 of the argument): a move of a block outside a deadlock leaves it as it is, a constructive move lifts no
 -- deadlocked block, and makes no deadlock. Source: Gupta and Nau (document 000), section 3; document 001, section 3.3. Assumes nothing.
-use mathlib.Core.Path.{_≡_, refl, sym, ap, _∙_, subst}
+use mathlib.Core.Path.{_≡_, sym, ap, _∙_, subst}
 use mathlib.Core.Logic.{_⊎_, inl, inr, _≢_}
-use mathlib.Core.Bool.{Bool, true, false}
-use Prim.Native.Nat.{ℕ, zero, suc, _≤_, _<_}
+use mathlib.Core.Bool.{Bool}
+use Prim.Native.Nat.{ℕ, suc, _<_}
 use native.Mathlib.Omega.{arith}
-use lib.Dec.{ltb}
-use Rattle.blocks.specs.State.{State, support, put, down, Above}
+use Rattle.blocks.specs.State.{State, put, down, Above}
 use Rattle.blocks.specs.Position.{Problem, InPosition}
 use Rattle.blocks.specs.Move.{Legal, Constructive}
 use Rattle.blocks.specs.Deadlock.{wrap, next, Deadlock}

@@ -1,7 +1,7 @@
 -- The deadlock test agrees with the definition at the start (step 13): constructive moves keep every deadlock and make none. Assumes nothing.
 use mathlib.Core.Path.{_≡_, refl, sym, ap, _∙_, subst}
 use mathlib.Core.Logic.{_≢_, _↔_}
-use mathlib.Core.Bool.{Bool, true, false, cond}
+use mathlib.Core.Bool.{Bool, cond}
 use mathlib.Core.List.{List, [], _∷_}
 use Prim.Native.Nat.{ℕ, zero, suc, _+_, _*_, _≤_, _<_}
 use native.Mathlib.Omega.{arith}
@@ -11,21 +11,21 @@ use Rattle.blocks.specs.State.{State}
 use Rattle.blocks.specs.Position.{Problem}
 use Rattle.blocks.specs.Move.{Plan, Constructive, after}
 use Rattle.blocks.specs.Tests.{misplacedCount}
-use Rattle.blocks.specs.Deadlock.{next, Deadlock, Deadlocked}
+use Rattle.blocks.specs.Deadlock.{Deadlock}
 use Rattle.blocks.specs.Loop.{loop, blocker, onward, blockedPairs}
 use Rattle.blocks.specs.Method.{endOf, settled, deadlockLoop, deadlockPairs}
 use Rattle.blocks.specs.Demands.{NoDeadlock, Shown}
+use Rattle.blocks.specs.Stall.{IsLoop, NoneReady}
 use Rattle.blocks.proofs.Reflect.{Reflects, holds, fails, eqb-reflects}
 use Rattle.blocks.proofs.DeadlockLaws.{deadlock-stands, deadlock-old}
 use Rattle.blocks.proofs.MisplacedLaws.{none-misplaced}
-use Rattle.blocks.proofs.StallLaws.{Stalled}
-use Rattle.blocks.proofs.LoopLaws.{IsLoop, loop-closed, loop-short, onward-closed, onward-length, onward-lowest, loop-deadlock}
+use Rattle.blocks.proofs.LoopLaws.{loop-closed, loop-short, onward-closed, onward-length, onward-lowest, loop-deadlock}
 use Rattle.blocks.proofs.RunLaws.{Run, run-end, run-with, run-back}
 use Rattle.blocks.proofs.MethodLaws.{building-runs, enough, some-misplaced}
 
 -- the run of constructive moves to the settled state
 abbrev Builds : State → State → Plan → Type 0
-Builds g s p = Run (λ t. Problem t g) (λ t. Constructive t g) (λ t. Stalled t g) s p
+Builds g s p = Run (λ t. Problem t g) (λ t. Constructive t g) (λ t. NoneReady t g) s p
 
 settled-run : {s g : State} → Problem s g → (p : Plan) × (settled s g ≡ after s p) × Builds g s p
 unfolding settled
@@ -34,7 +34,7 @@ settled-run {s} {g} p = let r = building-runs _ s g p (enough p) in (r .0, ap (e
 -- the settled state is stalled or the goal, and has just the deadlocks of the start
 pub record Settled (s g t : State) : Type 0 where
   pub problem : Problem t g
-  pub stalled : Stalled t g
+  pub stalled : NoneReady t g
   pub keeps : {k : ℕ} {b d : ℕ → ℕ} → Deadlock s g k b d → Deadlock t g k b d
   pub had : {k : ℕ} {b d : ℕ → ℕ} → Deadlock t g k b d → Deadlock s g k b d
 

@@ -1,15 +1,15 @@
 -- A legal move of a changes nothing beneath any other block (step 1 of the argument), and keeps a state proper (step 2).
 -- Idea: what is met on the way down from b carries something, and a carries nothing. Assumes nothing.
-use mathlib.Core.Path.{_≡_, refl, sym, ap, _∙_, subst}
+use mathlib.Core.Path.{_≡_, refl, sym, ap, _∙_}
 use mathlib.Core.Logic.{_⊎_, inl, inr, _≢_}
-use Prim.Native.Nat.{ℕ, zero, suc, _≤_, _<_}
+use Prim.Native.Nat.{ℕ, zero, suc, _≤_}
 use native.Mathlib.Omega.{arith}
 use lib.ListN.{length}
-use Rattle.blocks.specs.State.{State, Block, support, put, down, Above, Clear, Grounded}
-use Rattle.blocks.specs.Position.{Proper, Problem, InPosition, Misplaced}
+use Rattle.blocks.specs.State.{State, support, put, down, Above, Clear, Grounded}
+use Rattle.blocks.specs.Position.{Proper, Problem, InPosition}
 use Rattle.blocks.specs.Move.{Legal}
 use Rattle.blocks.proofs.Reflect.{same?}
-use Rattle.blocks.proofs.StateLaws.{length-put, support-put-same, support-put-other, down-suc}
+use Rattle.blocks.proofs.StateLaws.{length-put, support-put-same, support-put-other}
 
 -- the way down from another block does not meet a clear block
 pub down-avoids : (s : State) (a b : ℕ) → Clear s a → a ≢ 0 → b ≢ a → (k : ℕ) → down s k b ≢ a

@@ -21,5 +21,6 @@ pub mod QuestionLaws
 pub mod ReplayLaws
 pub mod FlatLaws
 pub mod AnswerLaws
+pub mod AnsweredLaws
 pub mod Theorems
 pub mod Starred

@@ -17,10 +17,11 @@ use Rattle.blocks.specs.Search.{lowest, count}
 use Rattle.blocks.specs.Tests.{waitingᵇ}
 use Rattle.blocks.specs.Loop.{blocker, top, successor, memberᵇ, from, before, walk, loop, lowestOf, onward}
 use Rattle.blocks.specs.Deadlock.{wrap, next, Deadlock}
+use Rattle.blocks.specs.Stall.{IsLoop, NoneReady, Perched, Waiting}
 use Rattle.blocks.proofs.Reflect.{Reflects, holds, fails, from-true, to-true, to-false, not-not, reflects-or, reflects-iff, eqb-reflects, leb-reflects, ltb-reflects}
 use Rattle.blocks.proofs.SearchLaws.{lowest-passes, lowest-first, lowest-none, count-all, count-one-more}
-use Rattle.blocks.proofs.PositionLaws.{misplaced-block, Waiting, waiting-reflects, Stuck}
-use Rattle.blocks.proofs.StallLaws.{Stalled, above-off-table, waiting-above, successor-waits}
+use Rattle.blocks.proofs.PositionLaws.{misplaced-block, waiting-reflects}
+use Rattle.blocks.proofs.StallLaws.{above-off-table, waiting-above, successor-waits}
 
 -- ---- membership
 
@@ -120,12 +121,6 @@ module _ {W : ℕ → Type 0} {f : ℕ → ℕ} where
 
 -- ---- loops
 
--- a list of misplaced clear blocks, each followed by its successor, the last by the first
-pub record IsLoop (s g : State) (l : List ℕ) : Type 0 where
-  pub some : 1 ≤ length l
-  pub waiting : (i : ℕ) → i < length l → Waiting s g (getD l i 0)
-  pub follows : (i : ℕ) → i < length l → successor s g (getD l i 0) ≡ getD l (next (length l) i) 0
-
 -- the entry after the one at i: past the last stands the first once more
 entry-next : (l : List ℕ) (i : ℕ) → i < length l → getD (l ++ (getD l 0 0 ∷ [])) (suc i) 0 ≡ getD l (next (length l) i) 0
 entry-next l i h = go (ltb-reflects (suc i) (length l))
@@ -178,7 +173,7 @@ unseen-less s b l w h =
 lowest-there : (P : ℕ → Bool) (n c : ℕ) → 1 ≤ c → c ≤ n → P c ≡ true → lowest P n ≢ 0
 lowest-there P n c l h q z = true≢false (sym q ∙ lowest-none P n z c l h)
 
-module _ {s g : State} (p : Problem s g) (still : Stalled s g) where
+module _ {s g : State} (p : Problem s g) (still : NoneReady s g) where
   abbrev Short : List ℕ → Type 0
   Short l = IsLoop s g l × (length l ≤ length s)
 
@@ -222,11 +217,11 @@ module _ {s g : State} (p : Problem s g) (still : Stalled s g) where
       waits : Waiting s g start
       waits = from-true (waiting-reflects s g (p .initial) start) (lowest-passes (waitingᵇ s g) (length s) found)
 
-pub loop-closed : {s g : State} → Problem s g → Stalled s g → {b : ℕ} → Misplaced s g b → IsLoop s g (loop s g)
+pub loop-closed : {s g : State} → Problem s g → NoneReady s g → {b : ℕ} → Misplaced s g b → IsLoop s g (loop s g)
 loop-closed p still m = loop-both p still m .0
 
 -- no block is visited twice
-pub loop-short : {s g : State} → Problem s g → Stalled s g → {b : ℕ} → Misplaced s g b → length (loop s g) ≤ length s
+pub loop-short : {s g : State} → Problem s g → NoneReady s g → {b : ℕ} → Misplaced s g b → length (loop s g) ≤ length s
 loop-short p still m = loop-both p still m .1
 
 -- ---- from its lowest number onward
@@ -311,7 +306,7 @@ prev-next p i h = go (ltb-reflects (suc i) p)
     go (holds k) = refl
     go (fails n) = let e : pred p ≡ i = omega (arith, n) in e
 
-module _ {s g : State} {l : List ℕ} (p : Problem s g) (still : Stalled s g) (c : IsLoop s g l) where
+module _ {s g : State} {l : List ℕ} (p : Problem s g) (still : NoneReady s g) (c : IsLoop s g l) where
   -- the block in the way of the one before
   between : ℕ → ℕ
   between i = blocker s g (getD l (prev (length l) i) 0)
@@ -329,7 +324,7 @@ module _ {s g : State} {l : List ℕ} (p : Problem s g) (still : Stalled s g) (c
       subst (λ a. Above s a (between i)) here (successor-waits p still (getD l j 0) (c .waiting j k) .1)
 
 -- a loop is deadlocked, by the blocks in the way: document 01's next d of b is the blocker of b
-pub loop-deadlock : {s g : State} {l : List ℕ} → Problem s g → Stalled s g → IsLoop s g l →
+pub loop-deadlock : {s g : State} {l : List ℕ} → Problem s g → NoneReady s g → IsLoop s g l →
     (d : ℕ → ℕ) × Deadlock s g (length l) (λ i. getD l i 0) d × ((i : ℕ) → i < length l → d (next (length l) i) ≡ blocker s g (getD l i 0))
 loop-deadlock {s} {g} {l} p still c = (between p still c, dead, between-next p still c)
   where
@@ -343,5 +338,5 @@ loop-deadlock {s} {g} {l} p still c = (between p still c, dead, between-next p s
         }
 
 -- every block of a loop is off the table
-pub loop-stuck : {s g : State} {l : List ℕ} → Problem s g → Stalled s g → IsLoop s g l → (i : ℕ) → i < length l → Stuck s g (getD l i 0)
-loop-stuck p still c i h = (c .waiting i h, above-off-table (above-between p still c i h))
+pub loop-perched : {s g : State} {l : List ℕ} → Problem s g → NoneReady s g → IsLoop s g l → (i : ℕ) → i < length l → Perched s g (getD l i 0)
+loop-perched p still c i h = (c .waiting i h, above-off-table (above-between p still c i h))

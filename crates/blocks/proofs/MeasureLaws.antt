@@ -1,21 +1,20 @@
 -- The measure Ψ of step 10: misplaced blocks, and once more those off the table now and in the goal. Every move of a method takes from it:
 -- a move to the table takes exactly 1, a constructive move 1 or 2, and exactly 1 where the block stands on the table. Assumes nothing.
-use mathlib.Core.Path.{_≡_, refl, sym, ap, _∙_, subst}
+use mathlib.Core.Path.{_≡_, sym, ap, _∙_}
 use mathlib.Core.Logic.{_⊎_, inl, inr, _≢_}
-use mathlib.Core.Bool.{Bool, true, false}
-use Prim.Native.Nat.{ℕ, zero, suc, _+_, _*_, _≤_, _<_}
+use Prim.Native.Nat.{ℕ, suc, _*_, _≤_}
 use native.Mathlib.Omega.{arith}
 use lib.ListN.{length}
 use Rattle.blocks.specs.State.{State, support, put}
 use Rattle.blocks.specs.Search.{count}
-use Rattle.blocks.specs.Position.{Proper, Problem, InPosition, Misplaced}
+use Rattle.blocks.specs.Position.{Proper, Problem, Misplaced}
 use Rattle.blocks.specs.Move.{Legal, Constructive}
 use Rattle.blocks.specs.Tests.{misplacedᵇ, misplacedCount, twiceᵇ, measure}
 use Rattle.blocks.proofs.Reflect.{Reflects, from-true, to-true, to-false, decided, reflects-and, reflects-not, reflects-same, eqb-reflects, same?}
 use Rattle.blocks.proofs.SearchLaws.{count-le, count-ext, count-mono, count-one-more}
 use Rattle.blocks.proofs.StateLaws.{length-put, support-put-other}
 use Rattle.blocks.proofs.FrameLaws.{support-moved, position-frame, position-unframe, proper-moved}
-use Rattle.blocks.proofs.PositionLaws.{misplaced-reflects, position-moved, position-on, position-table}
+use Rattle.blocks.proofs.PositionLaws.{misplaced-reflects, position-moved, position-table}
 use Rattle.blocks.proofs.MisplacedLaws.{misplaced-falls, misplaced-stays}
 
 -- a misplaced block off the table now and in the goal

@@ -1,32 +1,33 @@
 -- The three methods arrive (steps 9 to 12 of the argument): their runs, what they put down, where they end, and how many moves they write.
 -- Source: document 001, sections 3.1 to 3.3. Assumes nothing.
 use mathlib.Core.Path.{_≡_, refl, sym, ap, _∙_, subst}
-use mathlib.Core.Logic.{_⊎_, inl, inr, _≢_}
+use mathlib.Core.Logic.{_≢_}
 use mathlib.Core.List.{List, _++_}
-use Prim.Native.Nat.{ℕ, zero, suc, _+_, _*_, _≤_}
+use Prim.Native.Nat.{ℕ, zero, suc, _+_, _≤_}
 use native.Mathlib.Omega.{arith}
 use lib.ListN.{length, length-append}
 use Rattle.blocks.specs.State.{State, support, put, down, Clear}
-use Rattle.blocks.specs.Position.{Problem, Misplaced, InPosition}
-use Rattle.blocks.specs.Move.{Plan, Constructive, LegalPlan, CarefulPlan, Solves, after}
+use Rattle.blocks.specs.Position.{Problem, Misplaced}
+use Rattle.blocks.specs.Move.{Plan, Constructive, CarefulPlan, Solves, after}
 use Rattle.blocks.specs.Deadlock.{Deadlocked}
 use Rattle.blocks.specs.Search.{lowest}
 use Rattle.blocks.specs.Tests.{misplacedᵇ, misplacedCount, measure}
-use Rattle.blocks.specs.Loop.{loop, lowestOf, top, successor}
-use Rattle.blocks.specs.Method.{Outcome, plan, precede, andThen, iterate, fuel, lowestStuck, lowestOnLoop, clearing, building, solving, Method, Us, Gn1, Gn2, outcome}
+use Rattle.blocks.specs.Loop.{loop, top, successor}
+use Rattle.blocks.specs.Method.{plan, precede, andThen, iterate, fuel, lowestPerched, lowestOnLoop, clearing, building, solving, Method, Us, Gn1, Gn2, outcome}
+use Rattle.blocks.specs.Stall.{NoneReady, Perched, Waiting}
 use Rattle.blocks.proofs.Reflect.{from-true, not-not, eqb-reflects}
 use Rattle.blocks.proofs.SearchLaws.{lowest-passes, lowest-none, count-none}
 use Rattle.blocks.proofs.StateLaws.{support-put-other, down-table}
 use Rattle.blocks.proofs.FrameLaws.{problem-moved, position-frame, clear-frame}
 use Rattle.blocks.proofs.TowerLaws.{Reaches}
-use Rattle.blocks.proofs.PositionLaws.{Waiting, Stuck, position-moved, position-table, misplaced-block, misplaced-reflects}
+use Rattle.blocks.proofs.PositionLaws.{position-moved, position-table, misplaced-block, misplaced-reflects}
 use Rattle.blocks.proofs.DeadlockLaws.{deadlock-old}
 use Rattle.blocks.proofs.MisplacedLaws.{none-misplaced-is-goal}
-use Rattle.blocks.proofs.StallLaws.{Stalled, top-clear, waiting-above, successor-waits, above-off-table}
-use Rattle.blocks.proofs.LoopLaws.{loop-closed, loop-deadlock, loop-stuck, lowest-of-loop}
+use Rattle.blocks.proofs.StallLaws.{top-clear, waiting-above, successor-waits, above-off-table}
+use Rattle.blocks.proofs.LoopLaws.{loop-closed, loop-deadlock, loop-perched, lowest-of-loop}
 use Rattle.blocks.proofs.MeasureLaws.{measure-le, misplaced-le, fewer, measure-once}
 use Rattle.blocks.proofs.RunLaws.{Run, runs, run-end, run-legal, run-careful, run-takes, run-bound, run-with, after-append, legal-append, careful-append}
-use Rattle.blocks.proofs.StepLaws.{Moves, Solving, Picks, PutsDown, clearing-steps, building-steps, solving-steps, solving-moves, moves-legal, moves-careful, moves-measure, clears-measure, stuck-none, stuck-found}
+use Rattle.blocks.proofs.StepLaws.{Moves, Solving, Picks, PutsDown, clearing-steps, building-steps, solving-steps, solving-moves, moves-legal, moves-careful, moves-measure, clears-measure, perched-none, perched-found}
 
 -- ---- what is misplaced, and what is put down
 
@@ -41,19 +42,19 @@ some-misplaced {s} {g} p n = by (lowest (misplacedᵇ s g) (length s)) refl
         let found : lowest (misplacedᵇ s g) (length s) ≢ 0 = λ z. absurd (omega (arith, e, z)) in
         (suc i, from-true (misplaced-reflects s g (p .initial) (suc i)) (ap (misplacedᵇ s g) (sym e) ∙ lowest-passes (misplacedᵇ s g) (length s) found))
 
--- in a stalled state with a misplaced block some block is stuck: the successor of a misplaced clear one
-pub stuck-exists : {s g : State} → Problem s g → Stalled s g → {b : ℕ} → Misplaced s g b → (c : ℕ) × Stuck s g c
-stuck-exists {s} {g} p h {b} m =
+-- in a stalled state with a misplaced block some block is perched: the successor of a misplaced clear one
+pub perched-exists : {s g : State} → Problem s g → NoneReady s g → {b : ℕ} → Misplaced s g b → (c : ℕ) × Perched s g c
+perched-exists {s} {g} p h {b} m =
     let w = successor-waits p h (top s (length s) b) (waiting-above p b m) in
     (successor s g (top s (length s) b), (w .0, above-off-table (w .1)))
 
--- method 2 puts a stuck block down
-pub stuck-picked : (g : State) → Picks g lowestStuck
-stuck-picked g s p h n = by (lowestStuck s g) refl
+-- method 2 puts a perched block down
+pub perched-picked : (g : State) → Picks g lowestPerched
+perched-picked g s p h n = by (lowestPerched s g) refl
   where
-    by : (b : ℕ) → lowestStuck s g ≡ b → Stuck s g b
-    by zero e = let w = stuck-exists p h (some-misplaced p n .1) in absurd (stuck-none p e (w .0) (w .1))
-    by (suc i) e = stuck-found p i e
+    by : (b : ℕ) → lowestPerched s g ≡ b → Perched s g b
+    by zero e = let w = perched-exists p h (some-misplaced p n .1) in absurd (perched-none p e (w .0) (w .1))
+    by (suc i) e = perched-found p i e
 
 -- and so does method 3
 pub loop-picked : (g : State) → Picks g lowestOnLoop
@@ -61,7 +62,7 @@ unfolding lowestOnLoop
 loop-picked g s p h n =
     let l = loop-closed p h (some-misplaced p n .1) in
     let w = lowest-of-loop p l in
-    rw (w .2) (loop-stuck p h l (w .0) (w .1))
+    rw (w .2) (loop-perched p h l (w .0) (w .1))
 
 -- ---- the state after the first loop of US: every misplaced block is clear and on the table
 
@@ -69,7 +70,7 @@ pub Spread : State → State → Type 0
 Spread s g = (b : ℕ) → Misplaced s g b → (support s b ≡ 0) × Clear s b
 
 -- Idea: the top of a misplaced block's tower is misplaced, so it stands on the table, and is that block.
-spread-begins : {s g : State} → Problem s g → ((b : ℕ) → ¬ Stuck s g b) → Spread s g
+spread-begins : {s g : State} → Problem s g → ((b : ℕ) → ¬ Perched s g b) → Spread s g
 unfolding Spread
 spread-begins {s} {g} p none b m = by (t .1 .0) (t .1 .1)
   where
@@ -101,11 +102,11 @@ spread-kept {s} {g} {a} {x} c h b m =
     away e = before (rw e (c .position))
 
 -- there a constructive move exists while anything is misplaced: a successor would be off the table
-spread-ends : {s g : State} → Problem s g → Spread s g → Stalled s g → misplacedCount s g ≡ 0
+spread-ends : {s g : State} → Problem s g → Spread s g → NoneReady s g → misplacedCount s g ≡ 0
 unfolding Spread
 spread-ends {s} {g} p h stalled =
     not-not (eqb-reflects (misplacedCount s g) 0) (λ n.
-    let w = stuck-exists p stalled (some-misplaced p n .1) in
+    let w = perched-exists p stalled (some-misplaced p n .1) in
     w .1 .1 (h (w .0) (w .1 .0 .0) .0))
 
 -- ---- the runs
@@ -120,18 +121,18 @@ measure-ends : {s g : State} → Problem s g → misplacedCount s g ≡ 0 → me
 measure-ends {s} {g} p e = omega (arith, e, measure-le s g (p .initial))
 
 pub clearing-runs : (s g : State) → Problem s g
-    → (p : Plan) × (iterate (clearing g) (fuel s) s ≡ plan p) × Run (λ t. Problem t g) (λ t. PutsDown t g) (λ t. (b : ℕ) → ¬ Stuck t g b) s p
+    → (p : Plan) × (iterate (clearing g) (fuel s) s ≡ plan p) × Run (λ t. Problem t g) (λ t. PutsDown t g) (λ t. (b : ℕ) → ¬ Perched t g b) s p
 clearing-runs s g p =
-    runs (clearing g) (λ t. Problem t g) (λ t. PutsDown t g) (λ t. (b : ℕ) → ¬ Stuck t g b) (λ t. measure t g)
+    runs (clearing g) (λ t. Problem t g) (λ t. PutsDown t g) (λ t. (b : ℕ) → ¬ Perched t g b) (λ t. measure t g)
     (λ t q. clearing-steps q)
-    (λ t a x q m. problem-moved (moves-legal q (Moves.clears (m .stuck) (m .table))) q)
-    (λ t a x q m. moves-measure q (Moves.clears (m .stuck) (m .table)))
+    (λ t a x q m. problem-moved (moves-legal q (Moves.clears (m .perched) (m .table))) q)
+    (λ t a x q m. moves-measure q (Moves.clears (m .perched) (m .table)))
     (fuel s) s p (enough p)
 
 pub building-runs : (f : ℕ) (s g : State) → Problem s g → measure s g ≤ f
-    → (p : Plan) × (iterate (building g) f s ≡ plan p) × Run (λ t. Problem t g) (λ t. Constructive t g) (λ t. Stalled t g) s p
+    → (p : Plan) × (iterate (building g) f s ≡ plan p) × Run (λ t. Problem t g) (λ t. Constructive t g) (λ t. NoneReady t g) s p
 building-runs f s g p h =
-    runs (building g) (λ t. Problem t g) (λ t. Constructive t g) (λ t. Stalled t g) (λ t. measure t g)
+    runs (building g) (λ t. Problem t g) (λ t. Constructive t g) (λ t. NoneReady t g) (λ t. measure t g)
     (λ t q. building-steps q)
     (λ t a x q c. problem-moved (c .legal) q)
     (λ t a x q c. moves-measure q (Moves.builds c))
@@ -175,7 +176,7 @@ solving-written m other s g p r =
     NoDeadlock t = (l : List ℕ) → ¬ Deadlocked t g l
 
     -- where nothing is deadlocked nothing is put down: a stalled state shows its loop
-    never : (t : State) → Problem t g → NoDeadlock t → Stalled t g → misplacedCount t g ≢ 0 → ⊥
+    never : (t : State) → Problem t g → NoDeadlock t → NoneReady t g → misplacedCount t g ≢ 0 → ⊥
     never t q none h n =
         let l = loop-closed q h (some-misplaced q n .1) in
         let k = loop-deadlock q h l in
@@ -197,13 +198,13 @@ us-written : (s g : State) → Problem s g → (p : Plan) × (outcome Us s g ≡
 unfolding outcome
 us-written s g p = (p₁ ++ p₂, same, written)
   where
-    first : (q : Plan) × (iterate (clearing g) (fuel s) s ≡ plan q) × Run (λ t. Problem t g) (λ t. PutsDown t g) (λ t. (b : ℕ) → ¬ Stuck t g b) s q
+    first : (q : Plan) × (iterate (clearing g) (fuel s) s ≡ plan q) × Run (λ t. Problem t g) (λ t. PutsDown t g) (λ t. (b : ℕ) → ¬ Perched t g b) s q
     first = clearing-runs s g p
 
     p₁ : Plan
     p₁ = first .0
 
-    r₁ : Run (λ t. Problem t g) (λ t. PutsDown t g) (λ t. (b : ℕ) → ¬ Stuck t g b) s p₁
+    r₁ : Run (λ t. Problem t g) (λ t. PutsDown t g) (λ t. (b : ℕ) → ¬ Perched t g b) s p₁
     r₁ = first .2
 
     mid : State
@@ -213,15 +214,15 @@ us-written s g p = (p₁ ++ p₂, same, written)
     problem = run-end r₁ .0
 
     took₁ : measure s g ≡ length p₁ + measure mid g
-    took₁ = run-takes (λ t. measure t g) (λ t a x q m. clears-measure q (m .stuck) (m .table)) r₁
+    took₁ = run-takes (λ t. measure t g) (λ t a x q m. clears-measure q (m .perched) (m .table)) r₁
 
-    second : (q : Plan) × (iterate (building g) (fuel s) mid ≡ plan q) × Run (λ t. Problem t g) (λ t. Constructive t g) (λ t. Stalled t g) mid q
+    second : (q : Plan) × (iterate (building g) (fuel s) mid ≡ plan q) × Run (λ t. Problem t g) (λ t. Constructive t g) (λ t. NoneReady t g) mid q
     second = building-runs (fuel s) mid g problem (omega (arith, took₁, enough p))
 
     p₂ : Plan
     p₂ = second .0
 
-    r₂ : Run (λ t. Problem t g × Spread t g) (λ t. Constructive t g) (λ t. Stalled t g) mid p₂
+    r₂ : Run (λ t. Problem t g × Spread t g) (λ t. Constructive t g) (λ t. NoneReady t g) mid p₂
     r₂ = run-with (λ t. Spread t g) (λ t a x q c h. spread-kept c h) (spread-begins problem (run-end r₁ .1)) (second .2)
 
     last : Problem (after mid p₂) g
@@ -246,11 +247,11 @@ us-written s g p = (p₁ ++ p₂, same, written)
           solves =
               record {
                 legal =
-                    legal-append s p₁ p₂ (run-legal (λ t a x q m. moves-legal q (Moves.clears (m .stuck) (m .table))) r₁) (run-legal (λ t a x q c. c .legal) (second .2));
+                    legal-append s p₁ p₂ (run-legal (λ t a x q m. moves-legal q (Moves.clears (m .perched) (m .table))) r₁) (run-legal (λ t a x q c. c .legal) (second .2));
                 arrives = after-append s p₁ p₂ ∙ none-misplaced-is-goal last ended;
               };
           careful =
-              careful-append s g p₁ p₂ (run-careful g (λ t a x q m. moves-careful q (Moves.clears (m .stuck) (m .table))) r₁)
+              careful-append s g p₁ p₂ (run-careful g (λ t a x q m. moves-careful q (Moves.clears (m .perched) (m .table))) r₁)
               (run-careful g (λ t a x q c. moves-careful q (Moves.builds c)) (second .2));
           bound = omega (arith, total);
           exact = λ _. total;
@@ -268,7 +269,7 @@ pub method-written : (m : Method) (s g : State) → Problem s g → (p : Plan) �
 unfolding outcome
 method-written Us s g p = us-written s g p
 method-written Gn1 s g p =
-    let r = solving-runs lowestStuck s g (stuck-picked g) p in
+    let r = solving-runs lowestPerched s g (perched-picked g) p in
     (r .0, r .1, solving-written Gn1 gn1-other s g (r .0) (r .2))
 method-written Gn2 s g p =
     let r = solving-runs lowestOnLoop s g (loop-picked g) p in

@@ -1,16 +1,15 @@
 -- How a move changes the count of misplaced blocks (step 3): the status of its own block alone can change. Assumes nothing.
-use mathlib.Core.Path.{_≡_, refl, sym, ap, _∙_, subst}
+use mathlib.Core.Path.{_≡_, sym, ap, _∙_, subst}
 use mathlib.Core.Logic.{_⊎_, inl, inr, _≢_}
-use mathlib.Core.Bool.{Bool, true, false}
-use Prim.Native.Nat.{ℕ, zero, suc, _≤_, _<_}
+use Prim.Native.Nat.{ℕ, suc, _≤_}
 use native.Mathlib.Omega.{arith}
 use lib.ListN.{length}
-use Rattle.blocks.specs.State.{State, support, put}
+use Rattle.blocks.specs.State.{State, put}
 use Rattle.blocks.specs.Search.{count}
 use Rattle.blocks.specs.Position.{Proper, Problem, InPosition, Misplaced}
 use Rattle.blocks.specs.Move.{Legal, Constructive}
 use Rattle.blocks.specs.Tests.{misplacedᵇ, misplacedCount}
-use Rattle.blocks.proofs.Reflect.{Reflects, from-false, to-true, to-false, not-not, decided, reflects-same, eqb-reflects}
+use Rattle.blocks.proofs.Reflect.{from-false, to-true, to-false, not-not, decided, reflects-same, eqb-reflects}
 use Rattle.blocks.proofs.SearchLaws.{count-ext, count-none, count-zero, count-one-more}
 use Rattle.blocks.proofs.StateLaws.{length-put}
 use Rattle.blocks.proofs.FrameLaws.{support-moved, position-frame, position-unframe, proper-moved}

@@ -1,7 +1,6 @@
 -- Laws of in position and of the tests that methods ask: each test is true exactly where its notion holds. Assumes nothing.
-use mathlib.Core.Path.{_≡_, refl, sym, ap, _∙_, subst}
-use mathlib.Core.Logic.{_⊎_, inl, inr, _≢_, _↔_}
-use mathlib.Core.Bool.{Bool, true, false}
+use mathlib.Core.Path.{_≡_, refl, sym, ap, _∙_}
+use mathlib.Core.Logic.{_⊎_, inl, inr}
 use Prim.Native.Nat.{ℕ, zero, suc, _+_, _≤_, _<_}
 use native.Mathlib.Omega.{arith}
 use native.Mathlib.Nat.{le-of-suc-le-suc}
@@ -9,12 +8,13 @@ use lib.ListN.{length}
 use Rattle.blocks.specs.State.{State, Block, support, put, down, Clear}
 use Rattle.blocks.specs.Position.{Proper, Problem, InPosition, Misplaced}
 use Rattle.blocks.specs.Move.{Legal, Constructive}
-use Rattle.blocks.specs.Tests.{clearᵇ, agreesᵇ, inPositionᵇ, misplacedᵇ, waitingᵇ, readyᵇ, stuckᵇ}
-use Rattle.blocks.proofs.Reflect.{Reflects, holds, fails, from-true, from-false, not-not, decided, reflects-not, reflects-and, reflects-iff, eqb-reflects, leb-reflects}
+use Rattle.blocks.specs.Tests.{agreesᵇ, inPositionᵇ, misplacedᵇ, waitingᵇ, readyᵇ, perchedᵇ}
+use Rattle.blocks.specs.Stall.{Perched, Waiting}
+use Rattle.blocks.proofs.Reflect.{Reflects, not-not, decided, reflects-not, reflects-and, reflects-iff, eqb-reflects, leb-reflects}
 use Rattle.blocks.proofs.StateLaws.{support-outside, same-supports, down-suc, down-add, down-table, down-more}
 use Rattle.blocks.proofs.GroundLaws.{ground-bound}
 use Rattle.blocks.proofs.ClearLaws.{clear-reflects}
-use Rattle.blocks.proofs.FrameLaws.{support-moved, down-frame, position-frame}
+use Rattle.blocks.proofs.FrameLaws.{support-moved, position-frame}
 
 -- ---- in position
 
@@ -108,21 +108,13 @@ pub misplaced-reflects : (s g : State) → Proper s → (b : ℕ) → Reflects (
 unfolding misplacedᵇ
 misplaced-reflects s g p b = reflects-not (position-reflects s g p b)
 
--- a misplaced clear block
-abbrev pub Waiting : State → State → ℕ → Type 0
-Waiting s g b = Misplaced s g b × Clear s b
-
 pub waiting-reflects : (s g : State) → Proper s → (b : ℕ) → Reflects (Waiting s g b) (waitingᵇ s g b)
 unfolding waitingᵇ
 waiting-reflects s g p b = reflects-and (misplaced-reflects s g p b) (clear-reflects s b)
 
--- a misplaced clear block off the table
-abbrev pub Stuck : State → State → ℕ → Type 0
-Stuck s g b = Waiting s g b × (support s b ≢ 0)
-
-pub stuck-reflects : (s g : State) → Proper s → (b : ℕ) → Reflects (Stuck s g b) (stuckᵇ s g b)
-unfolding stuckᵇ
-stuck-reflects s g p b = reflects-and (waiting-reflects s g p b) (reflects-not (eqb-reflects (support s b) 0))
+pub perched-reflects : (s g : State) → Proper s → (b : ℕ) → Reflects (Perched s g b) (perchedᵇ s g b)
+unfolding perchedᵇ
+perched-reflects s g p b = reflects-and (waiting-reflects s g p b) (reflects-not (eqb-reflects (support s b) 0))
 
 -- a misplaced clear block whose goal support is clear and in position has a constructive move
 pub ready-constructive : {s g : State} {b : ℕ} → Problem s g → Waiting s g b → Clear s (support g b) → InPosition s g (support g b) → Constructive s g b (support g b)

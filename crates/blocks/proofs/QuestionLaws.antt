@@ -11,7 +11,7 @@ use lib.ListN.{length}
 use Rattle.blocks.specs.State.{State, Block, support, Grounded}
 use Rattle.blocks.specs.Search.{lowest, Lowest}
 use Rattle.blocks.specs.Position.{Proper, Problem, Accepted}
-use Rattle.blocks.specs.Question.{Question, asks, Verdict, allYes, no′, firstNo, asksNone, badEntry, sharesᵇ, badSupport, ungrounded}
+use Rattle.blocks.specs.Question.{Question, asks, Asked, allYes, no′, firstNo, asksNone, badEntry, sharesᵇ, badSupport, ungrounded}
 use Rattle.blocks.specs.Question.{stateQuestions, problemQuestions, BadEntry, Shares, Ungrounded, None, BadState, entry, shares, floats}
 use Rattle.blocks.specs.Question.{Refused, long, uneven, initial, goal}
 use Rattle.blocks.proofs.Reflect.{Reflects, from-true, from-false, to-true, to-false, decided, not-not, reflects-not, reflects-and, reflects-iff}
@@ -85,19 +85,26 @@ floats-finds s none = finds (Ungrounded s) _ (length s) (λ b l h. reflects-not 
 
 -- ---- the three questions of one state
 
+-- of two blocks on one neither is the lower, so they are one
+none-carries : (s : State) → None (Shares s) (length s) → (b c : ℕ) → support s b ≡ support s c → support s b ≢ 0 → b ≡ c
+none-carries s noShared b c e m = omega (arith, apart b c e (λ z. m (e ∙ z)), apart c b (sym e) m)
+  where
+    apart : (d f : ℕ) → support s d ≡ support s f → support s f ≢ 0 → ¬ (d < f)
+    apart d f same off l =
+        let w : Block s f = supported-block s f off in
+        noShared f (w .low) (w .high) (record { off = off; other = d; lower = l; shared = same })
+
+-- questions 4 and 5 by themselves
+pub entries-yes : (s : State) → badEntry s ≡ 0 → (b : ℕ) → support s b ≤ length s
+entries-yes s e = entries-fit s (entry-finds s .absent e)
+
+pub carries-yes : (s : State) → badSupport s ≡ 0 → (b c : ℕ) → support s b ≡ support s c → support s b ≢ 0 → b ≡ c
+carries-yes s e = none-carries s (shares-finds s .absent e)
+
 -- no bad block of any kind, so a proper state
 none-proper : (s : State) → None (BadEntry s) (length s) → None (Shares s) (length s) → None (Ungrounded s) (length s) → Proper s
-none-proper s noBad noShared noFloat = record { entries = entries-fit s noBad; carries = carries; grounded = grounded }
+none-proper s noBad noShared noFloat = record { entries = entries-fit s noBad; carries = none-carries s noShared; grounded = grounded }
   where
-    -- of two blocks on one, neither is the lower
-    apart : (b c : ℕ) → support s b ≡ support s c → support s c ≢ 0 → ¬ (b < c)
-    apart b c e m l =
-        let w : Block s c = supported-block s c m in
-        noShared c (w .low) (w .high) (record { off = m; other = b; lower = l; shared = e })
-
-    carries : (b c : ℕ) → support s b ≡ support s c → support s b ≢ 0 → b ≡ c
-    carries b c e m = omega (arith, apart b c e (λ z. m (e ∙ z)), apart c b (sym e) m)
-
     grounded : (b : ℕ) → Grounded s b
     grounded b = go (same? (support s b) 0)
       where
@@ -221,7 +228,7 @@ module _ (s g : State) where
       go (inl h) (inl e) (inl w) (inr b) = inr (b .0, b .1, goal h e w (b .2))
       go (inl h) (inl e) (inl w) (inl v) = inl (record { small = h; problem = record { initial = w; goal = v; same = e } })
 
-not-both : (v : Verdict) (k p : ℕ) → v ≡ allYes → v ≡ no′ k p → ⊥
+not-both : (v : Asked) (k p : ℕ) → v ≡ allYes → v ≡ no′ k p → ⊥
 not-both v k p e f = let z : _≡_ {A = ℕ} 0 1 = cc in omega arith
 
 -- document 01's questions 2 to 9: all yes exactly on accepted problems,

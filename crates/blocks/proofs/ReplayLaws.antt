@@ -12,7 +12,7 @@ use Rattle.blocks.specs.State.{State, Block, support, put, Clear}
 use Rattle.blocks.specs.Search.{Lowest}
 use Rattle.blocks.specs.Move.{_⟶_, Plan, Legal, after, LegalPlan, Solves}
 use Rattle.blocks.specs.Tests.{clearᵇ}
-use Rattle.blocks.specs.Question.{Verdict, asks, allYes, no′, firstNo}
+use Rattle.blocks.specs.Question.{Asked, asks, allYes, no′, firstNo}
 use Rattle.blocks.specs.Replay.{BadMove, outside, covered, already, taken, Replayed, arrives, faulty, differs}
 use Rattle.blocks.specs.Answer.{ReplayAnswer, moveQuestions, firstDifference, arrival, orBad, replayFrom}
 use Rattle.blocks.proofs.Reflect.{Reflects, holds, fails, to-true, to-false, decided, not-not, reflects-not, reflects-and, reflects-iff}
@@ -24,7 +24,7 @@ use Rattle.blocks.proofs.ClearLaws.{clear-reflects}
 -- ---- one move
 
 -- what a move is, beside what its tests come to
-data Judged (s : State) (a x : ℕ) : Verdict → Type 0 where
+data Judged (s : State) (a x : ℕ) : Asked → Type 0 where
   good : Legal s a x → Judged s a x allYes
   bad : {v : ℕ} → BadMove s a x v → Judged s a x (no′ v 0)
 
@@ -80,14 +80,14 @@ module _ (s : State) (a x : ℕ) where
 pub move-yes : (s : State) (a x : ℕ) → (firstNo (moveQuestions s a x) ≡ allYes) ↔ Legal s a x
 move-yes s a x = (λ e. legal (judged s a x) e, legal-passes s a x)
   where
-    legal : {w : Verdict} → Judged s a x w → w ≡ allYes → Legal s a x
+    legal : {w : Asked} → Judged s a x w → w ≡ allYes → Legal s a x
     legal (good l) e = l
     legal (bad b) e = let z : _≡_ {A = ℕ} 0 1 = cc in absurd (omega arith)
 
 pub move-no : (s : State) (a x v q : ℕ) → (firstNo (moveQuestions s a x) ≡ no′ v q) ↔ (BadMove s a x v × (q ≡ 0))
 move-no s a x v q = (λ e. faults (judged s a x) e, λ h. bad-fails s a x (h .0) ∙ ap (λ k. no′ v k) (sym (h .1)))
   where
-    faults : {w : Verdict} → Judged s a x w → w ≡ no′ v q → BadMove s a x v × (q ≡ 0)
+    faults : {w : Asked} → Judged s a x w → w ≡ no′ v q → BadMove s a x v × (q ≡ 0)
     faults (good l) e = let z : _≡_ {A = ℕ} 0 1 = cc in absurd (omega arith)
     faults (bad {v = u} b) e = let i : u ≡ v = cc in (rw (← i) b, cc)
 
@@ -112,7 +112,7 @@ walked : (s : State) (p : Plan) → Walked s p
 walked s [] = whole tt
 walked s ((a ⟶ x) ∷ p) = by (judged s a x) (walked (put s a x) p)
   where
-    by : {w : Verdict} → Judged s a x w → Walked (put s a x) p → Walked s ((a ⟶ x) ∷ p)
+    by : {w : Asked} → Judged s a x w → Walked (put s a x) p → Walked s ((a ⟶ x) ∷ p)
     by (bad b) m = stops [] a x p refl tt b
     by (good l) (whole h) = whole (l, h)
     by (good l) (stops q b y r e h k) = stops ((a ⟶ x) ∷ q) b y r (ap (λ t. (a ⟶ x) ∷ t) e) (l, h) k

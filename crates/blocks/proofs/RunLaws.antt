@@ -7,7 +7,7 @@ use native.Mathlib.Omega.{arith}
 use lib.ListN.{length}
 use Rattle.blocks.specs.State.{State, put}
 use Rattle.blocks.specs.Move.{_⟶_, Plan, Legal, LegalPlan, Careful, CarefulPlan, after}
-use Rattle.blocks.specs.Method.{Step, stop, go, noBlock, plan, precede, follow, iterate}
+use Rattle.blocks.specs.Method.{Step, stop, go, plan, precede, follow, iterate}
 
 -- what is known of a step: of a move Go holds, of the end Stop, and it is never at a loss
 pub data Stepping (Go : ℕ → ℕ → Type 0) (Stop : Type 0) : Step → Type 0 where

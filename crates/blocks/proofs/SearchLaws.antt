@@ -2,10 +2,13 @@
 use mathlib.Core.Path.{_≡_, refl, sym, ap, _∙_, subst}
 use mathlib.Core.Logic.{_⊎_, inl, inr, _≢_}
 use mathlib.Core.Bool.{Bool, true, false, true≢false, false≢true}
-use Prim.Native.Nat.{ℕ, zero, suc, _≤_, _<_}
+use Prim.Native.Nat.{ℕ, zero, suc, _+_, _≤_, _<_}
 use native.Mathlib.Omega.{arith}
-use Rattle.blocks.specs.Search.{pick, orElse, lowest, count, Lowest}
-use Rattle.blocks.proofs.Reflect.{Reflects, from-true, from-false, to-true, to-false, same?}
+use native.Mathlib.Numerals.{add-one, one-add}
+use native.Mathlib.Nat.{zero-add}
+use borrow.Author.Count.{below-more}
+use Rattle.blocks.specs.Search.{pick, orElse, lowest, count, Counts, start, counted, passed, Lowest}
+use Rattle.blocks.proofs.Reflect.{Reflects, holds, fails, from-true, from-false, to-true, to-false, same?}
 
 -- what holds from 1 to n and of n + 1 holds from 1 to n + 1
 upto : (Q : ℕ → Type 0) (n : ℕ) → ((c : ℕ) → 1 ≤ c → c ≤ n → Q c) → Q (suc n) → (c : ℕ) → 1 ≤ c → c ≤ suc n → Q c
@@ -175,3 +178,43 @@ count-one-more P Q (suc n) a h l p q same = go (same? a (suc n)) (λ b. count-on
     go (inr m) rest =
         let here : pick (P (suc n)) 1 ≡ pick (Q (suc n)) 1 = ap (λ t. pick t 1) (same (suc n) (omega arith) (omega arith) (λ e. m (sym e))) in
         omega (arith, rest (omega (arith, m)))
+
+-- the count of a test is the count of what it reflects
+pub count-counts : (P : ℕ → Type 0) (t : ℕ → Bool) → ((b : ℕ) → Reflects (P b) (t b)) → (n : ℕ) → Counts P n (count t n)
+unfolding count
+count-counts P t same zero = start
+count-counts P t same (suc n) = by (same (suc n)) (count-counts P t same n)
+  where
+    by : {v : Bool} → Reflects (P (suc n)) v → Counts P n (count t n) → Counts P (suc n) (pick v 1 + count t n)
+    by (holds p) r = subst (Counts P (suc n)) (sym (one-add (count t n))) (counted r p)
+    by (fails m) r = subst (Counts P (suc n)) (sym (zero-add (count t n))) (passed r m)
+
+-- ---- scans: what a loop knows that has passed the numbers from 1 to i
+
+-- none of them passes the test
+abbrev pub Passed : (ℕ → Bool) → ℕ → Type 0
+Passed P i = (k : ℕ) → k < i → P (suc k) ≡ false
+
+pub passed-more : (P : ℕ → Bool) (i : ℕ) → Passed P i → P (suc i) ≡ false → Passed P (i + 1)
+passed-more P i h e = below-more (λ k. P (suc k) ≡ false) i h e
+
+-- the next one passes: it is the lowest
+pub scan-found : (P : ℕ → Bool) (n i : ℕ) → i < n → Passed P i → P (suc i) ≡ true → i + 1 ≡ lowest P n
+scan-found P n i l h e = add-one i ∙ sym (lowest-is P n (suc i) (omega arith) l e (λ c low k. at c low k))
+  where
+    at : (c : ℕ) → 1 ≤ c → c < suc i → P c ≡ false
+    at zero low k = absurd (omega arith)
+    at (suc c) low k = h c (omega arith)
+
+-- all are passed: there is none
+pub scan-none : (P : ℕ → Bool) (n i : ℕ) → n ≤ i → Passed P i → 0 ≡ lowest P n
+scan-none P n i l h = sym (lowest-zero P n at)
+  where
+    at : (c : ℕ) → 1 ≤ c → c ≤ n → P c ≡ false
+    at zero low k = absurd (omega arith)
+    at (suc c) low k = h c (omega arith)
+
+-- one number more is counted
+pub count-next : (P : ℕ → Bool) (i : ℕ) → count P (i + 1) ≡ pick (P (suc i)) 1 + count P i
+unfolding count
+count-next P i = rw (add-one i)

@@ -8,19 +8,15 @@ use native.Mathlib.Omega.{arith}
 use lib.ListN.{length}
 use Rattle.blocks.specs.State.{State, support, down, Above, Clear}
 use Rattle.blocks.specs.Position.{Problem, InPosition, Misplaced}
-use Rattle.blocks.specs.Move.{Constructive}
 use Rattle.blocks.specs.Tests.{load}
-use Rattle.blocks.specs.Loop.{lowestMisplaced, blocker, top, successor}
+use Rattle.blocks.specs.Loop.{lastMisplaced, blocker, top, successor}
+use Rattle.blocks.specs.Stall.{NoneReady, Waiting}
 use Rattle.blocks.proofs.Reflect.{Reflects, holds, fails}
 use Rattle.blocks.proofs.StateLaws.{down-suc, down-table}
 use Rattle.blocks.proofs.TowerLaws.{Reaches}
 use Rattle.blocks.proofs.GroundLaws.{ground-bound}
 use Rattle.blocks.proofs.ClearLaws.{load-rests, load-block, load-none, clear-reflects, clear-table}
-use Rattle.blocks.proofs.PositionLaws.{position-table, position-beneath, misplaced-block, position-reflects, Waiting, ready-constructive}
-
--- no block has a constructive move
-abbrev pub Stalled : State → State → Type 0
-Stalled s g = (b : ℕ) → ¬ Constructive s g b (support g b)
+use Rattle.blocks.proofs.PositionLaws.{position-table, position-beneath, misplaced-block, position-reflects, ready-constructive}
 
 -- what is above a block is off the table
 pub above-off-table : {s : State} {a b : ℕ} → Above s a b → support s a ≢ 0
@@ -68,21 +64,21 @@ module _ {s g : State} (p : Problem s g) where
   abbrev Foot : ℕ → ℕ → Type 0
   Foot b d = Misplaced s g d × InPosition s g (support g d) × Reaches g b d
 
-  descend : (k b : ℕ) → Misplaced s g b → down g k b ≡ 0 → Foot b (lowestMisplaced s g k b)
-  unfolding lowestMisplaced
+  descend : (k b : ℕ) → Misplaced s g b → down g k b ≡ 0 → Foot b (lastMisplaced s g k b)
+  unfolding lastMisplaced
   descend zero b m e = absurd (misplaced-nonzero m e)
   descend (suc k) b m e = go (position-reflects s g (p .initial) (support g b)) (λ n. descend k (support g b) n e)
     where
       go : {t : Bool} → Reflects (InPosition s g (support g b)) t →
-          (Misplaced s g (support g b) → Foot (support g b) (lowestMisplaced s g k (support g b))) →
-          Foot b (cond t b (lowestMisplaced s g k (support g b)))
+          (Misplaced s g (support g b) → Foot (support g b) (lastMisplaced s g k (support g b))) →
+          Foot b (cond t b (lastMisplaced s g k (support g b)))
       go (holds i) rest = (m, i, (0, refl))
       go (fails n) rest = let f = rest n in (f .0, f .1, (suc (f .2 .0), f .2 .1))
 
   -- d of document 01: misplaced, in the goal at or beneath b, its goal support in position
   pub foot : (b : ℕ) → Misplaced s g b →
-      Misplaced s g (lowestMisplaced s g (length s) b) × InPosition s g (support g (lowestMisplaced s g (length s) b)) ×
-      Reaches g b (lowestMisplaced s g (length s) b)
+      Misplaced s g (lastMisplaced s g (length s) b) × InPosition s g (support g (lastMisplaced s g (length s) b)) ×
+      Reaches g b (lastMisplaced s g (length s) b)
   foot b m =
       let l : b ≤ length g = omega (arith, p .same, misplaced-block (p .same) m .high) in
       descend (length s) b m (rw (p .same) at (ground-bound g (p .goal .entries) b l (p .goal .grounded b)))
@@ -115,13 +111,13 @@ module _ {s g : State} (p : Problem s g) where
           subst (InPosition s g) (p .goal .carries y d there (λ z. u .block (sym there ∙ z))) (position-beneath i (u .steps))
 
   -- the successor is misplaced and clear, above the blocker now, and b is above the blocker in the goal
-  pub successor-waits : Stalled s g → (b : ℕ) → Waiting s g b →
+  pub successor-waits : NoneReady s g → (b : ℕ) → Waiting s g b →
       Waiting s g (successor s g b) × Above s (successor s g b) (blocker s g b) × Above g b (blocker s g b)
   unfolding successor blocker
   successor-waits still b w = go (clear-reflects s (support g d)) (foot b (w .0))
     where
       d : ℕ
-      d = lowestMisplaced s g (length s) b
+      d = lastMisplaced s g (length s) b
 
       go : {t : Bool} → Reflects (Clear s (support g d)) t → Foot b d → Blocks b (cond t d (support g d))
       go (holds c) f = misplaced-blocks b d (w .1) (f .0) (λ v. still d (ready-constructive p (f .0, v) c (f .1))) (f .2)

@@ -1,5 +1,5 @@
 -- Towers are chains (step 4): of two blocks at or above one block, one is at or above the other. Assumes nothing.
-use mathlib.Core.Path.{_≡_, refl, sym, ap, _∙_, subst}
+use mathlib.Core.Path.{_≡_, refl, sym, ap, _∙_}
 use mathlib.Core.Logic.{_⊎_, inl, inr, _≢_}
 use Prim.Native.Nat.{ℕ, zero, suc}
 use Rattle.blocks.specs.State.{State, support, down, Clear}

@@ -1,16 +1,16 @@
 -- What every public operation answers, and what the lent space then holds (document 01, "What is lent and written"). Assumes nothing.
-use Prim.Native.Nat.{ℕ, zero, suc, _+_, _*_, _%_, _≤_}
-use mathlib.Core.Bool.{Bool, true, false, not, _&&_, _||_}
+use Prim.Native.Nat.{ℕ, zero, suc, _*_, _%_}
+use mathlib.Core.Bool.{Bool, true, false, not, _&&_}
 use mathlib.Core.List.{List, [], _∷_, _++_}
 use mathlib.Core.Option.{Option, none, some}
-use lib.Dec.{leb, ltb, eqb}
+use lib.Dec.{leb, eqb}
 use lib.ListN.{length, drop}
 use Rattle.blocks.specs.State.{State, support, put}
 use Rattle.blocks.specs.Search.{lowest}
-use Rattle.blocks.specs.Move.{Move, _⟶_, Plan, after}
+use Rattle.blocks.specs.Move.{_⟶_, Plan}
 use Rattle.blocks.specs.Tests.{clearᵇ, changed}
 use Rattle.blocks.specs.Method.{Outcome, plan, nothingToPutDown, Method, Us, Gn1, Gn2, outcome, deadlockPairs, deadlockLoop}
-use Rattle.blocks.specs.Question.{Question, asks, asksNone, Verdict, allYes, no′, firstNo, problemQuestions}
+use Rattle.blocks.specs.Question.{Question, asks, Asked, allYes, no′, firstNo, problemQuestions}
 
 -- ---- lists of numbers as lists of moves
 
@@ -35,7 +35,7 @@ pub record CheckAnswer : Type 0 where
   pub number : ℕ
   pub place : ℕ
 
-abbrev pub checked : Verdict → CheckAnswer
+abbrev pub checked : Asked → CheckAnswer
 checked allYes = record { number = 0; place = 0 }
 checked (no′ k p) = record { number = k; place = p }
 
@@ -92,7 +92,7 @@ planQuestions m s g space =
     asks 1 (isMethod (methodOf m)) 0
     ∷ (problemQuestions s g ++ (asks 10 (leb (4 * length s) (length space)) 0 ∷ asks 13 (isPlan (planOutcome m s g)) 0 ∷ []))
 
-abbrev pub planned : Verdict → State → State → Plan → PlanAnswer
+abbrev pub planned : Asked → State → State → Plan → PlanAnswer
 planned allYes s g p = record { number = 0; place = 0; count = length p; changed = changed s g }
 planned (no′ k q) s g p = record { number = k; place = q; count = 0; changed = 0 }
 
@@ -100,7 +100,7 @@ unfoldable pub planAnswer : ℕ → State → State → List ℕ → PlanAnswer
 planAnswer m s g space = planned (firstNo (planQuestions m s g space)) s g (planOf (planOutcome m s g))
 
 -- What the lent space holds: "no lent list is altered" on a refusal.
-abbrev pub written : Verdict → List ℕ → List ℕ → List ℕ
+abbrev pub written : Asked → List ℕ → List ℕ → List ℕ
 written allYes l space = overwrite l space
 written (no′ k q) l space = space
 
@@ -117,7 +117,7 @@ pub record DeadlockAnswer : Type 0 where
 unfoldable pub deadlockQuestions : State → State → List ℕ → List Question
 deadlockQuestions s g space = problemQuestions s g ++ (asks 10 (leb (2 * length s) (length space)) 0 ∷ [])
 
-abbrev pub tested : Verdict → List ℕ → DeadlockAnswer
+abbrev pub tested : Asked → List ℕ → DeadlockAnswer
 tested allYes l = record { number = 0; place = 0; count = length l }
 tested (no′ k q) l = record { number = k; place = q; count = 0 }
 
@@ -129,7 +129,7 @@ deadlockSpace s g space = written (firstNo (deadlockQuestions s g space)) (deadl
 
 -- ---- replay: questions 2 to 9 and 11
 
--- "a verdict and a place"; on a refusal the verdict is 0 and the place is the refusal's.
+-- "a verdict and a place". "a refused replay gives no verdict": where `number` is not 0, `verdict` is a filler, 0, and the place is the refusal's.
 pub record ReplayAnswer : Type 0 where
   pub number : ℕ
   pub verdict : ℕ
@@ -153,7 +153,7 @@ abbrev pub arrival : ℕ → ReplayAnswer
 arrival zero = record { number = 0; verdict = 0; place = 0 }
 arrival (suc i) = record { number = 0; verdict = 5; place = suc i }
 
-abbrev pub orBad : Verdict → ℕ → ReplayAnswer → ReplayAnswer
+abbrev pub orBad : Asked → ℕ → ReplayAnswer → ReplayAnswer
 orBad allYes k rest = rest
 orBad (no′ v q) k rest = record { number = 0; verdict = v; place = k }
 
@@ -165,7 +165,7 @@ replayFrom k s g ((a ⟶ x) ∷ p) = orBad (firstNo (moveQuestions s a x)) k (re
 unfoldable pub replayQuestions : State → State → List ℕ → List Question
 replayQuestions s g lifts = problemQuestions s g ++ (asks 11 (eqb (length lifts % 2) 0) 0 ∷ [])
 
-abbrev pub replayed : Verdict → ReplayAnswer → ReplayAnswer
+abbrev pub replayed : Asked → ReplayAnswer → ReplayAnswer
 replayed allYes answer = answer
 replayed (no′ k q) answer = record { number = k; verdict = 0; place = q }
 

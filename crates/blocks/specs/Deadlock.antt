@@ -1,6 +1,6 @@
 -- Deadlock as document 01 writes it ("Deadlock"; document 000, section 2). Assumes nothing.
--- "All are misplaced" is asked for every p: document 000's remark that it follows for p > 1 fails where now and goal are both 0 1 2 3 for blocks 1 to 4.
-use Prim.Native.Nat.{ℕ, zero, suc, _≤_, _<_}
+-- That "all are misplaced" is asked for every p: document 000's remark that it follows for p > 1 fails where now and goal are both 0 1 2 3 for blocks 1 to 4.
+use Prim.Native.Nat.{ℕ, suc, _≤_, _<_}
 use mathlib.Core.Bool.{Bool, true, false}
 use mathlib.Core.List.{List}
 use lib.Dec.{ltb}

@@ -1,21 +1,24 @@
--- The theorems, statements alone: the three demands and what later work stands on. proofs/Theorems proves the whole record. Assumes nothing.
+-- The theorems, statements alone: the three demands, which the quotations are of, and what later work stands on. proofs/Theorems proves the whole record. Assumes nothing.
 -- Read `Problem` as a sheet that is accepted (questions 3 to 9; no bound on the number of blocks is needed), `Solves` as a legal list that arrives.
-use Prim.Native.Nat.{ℕ, suc, _+_, _*_, _%_, _≤_, _<_}
+use Prim.Native.Nat.{ℕ, _+_, _*_, _%_, _≤_, _<_}
 use mathlib.Core.Path.{_≡_}
 use mathlib.Core.Logic.{_≢_, _↔_}
 use mathlib.Core.Bool.{true}
 use mathlib.Core.List.{List, _++_}
-use lib.ListN.{length, getD, drop}
-use Rattle.blocks.specs.State.{State, support, Clear, Grounded}
+use lib.ListN.{length, getD, take, drop}
+use Rattle.blocks.specs.State.{State, support, down, Above, Clear, Grounded}
+use Rattle.blocks.specs.Search.{Counts}
 use Rattle.blocks.specs.Position.{Proper, Problem, Accepted, InPosition, Misplaced}
-use Rattle.blocks.specs.Move.{Plan, Constructive, CarefulPlan, Moved, Solves}
-use Rattle.blocks.specs.Tests.{clearᵇ, groundedᵇ, inPositionᵇ, readyᵇ, stuckᵇ, misplacedCount, changed, measure}
+use Rattle.blocks.specs.Move.{Plan, CarefulPlan, Moved, Solves}
+use Rattle.blocks.specs.Tests.{clearᵇ, groundedᵇ, inPositionᵇ, waitingᵇ, readyᵇ, perchedᵇ, misplacedCount, changed, measure}
 use Rattle.blocks.specs.Deadlock.{next, Deadlock, Deadlocked}
+use Rattle.blocks.specs.Loop.{lastMisplaced, blocker, successor, loop}
+use Rattle.blocks.specs.Stall.{Waiting, Perched, Ready, NoneReady, IsLoop}
 use Rattle.blocks.specs.Method.{Method, Us, plan, outcome, deadlockLoop, deadlockPairs}
 use Rattle.blocks.specs.Question.{firstNo, problemQuestions, allYes, no′, Refused}
 use Rattle.blocks.specs.Replay.{Replayed}
 use Rattle.blocks.specs.Refusal.{PlanRefused, DeadlockRefused, ReplayRefused}
-use Rattle.blocks.specs.Answer.{numberOf, flat, moves, planQuestions, planAnswer, planSpace, deadlockQuestions, deadlockAnswer, deadlockSpace, replayFrom, replayQuestions, replayAnswer}
+use Rattle.blocks.specs.Answer.{numberOf, flat, moves, checkAnswer, planQuestions, planAnswer, planSpace, deadlockQuestions, deadlockAnswer, deadlockSpace, replayFrom, replayQuestions, replayAnswer}
 
 -- "without a deadlock at the start": no blocks are deadlocked.
 abbrev pub NoDeadlock : State → State → Type 0
@@ -56,13 +59,17 @@ pub record Theorems : Type 0 where
   -- ---- the tests agree with the notions
   pub position-test : (s g : State) → Proper s → (b : ℕ) → (inPositionᵇ s g b ≡ true) ↔ InPosition s g b
   pub clear-test : (s : State) (b : ℕ) → (clearᵇ s b ≡ true) ↔ Clear s b
-  pub ready-test : (s g : State) → Problem s g → (b : ℕ) → (readyᵇ s g b ≡ true) ↔ Constructive s g b (support g b)
-  pub stuck-test : (s g : State) → Proper s → (b : ℕ) → (stuckᵇ s g b ≡ true) ↔ ((Misplaced s g b × Clear s b) × (support s b ≢ 0))
+  pub ready-test : (s g : State) → Problem s g → (b : ℕ) → (readyᵇ s g b ≡ true) ↔ Ready s g b
+  pub waiting-test : (s g : State) → Proper s → (b : ℕ) → (waitingᵇ s g b ≡ true) ↔ Waiting s g b
+  pub perched-test : (s g : State) → Proper s → (b : ℕ) → (perchedᵇ s g b ≡ true) ↔ Perched s g b
   pub grounded-test : (s : State) → ((b : ℕ) → support s b ≤ length s) → (b : ℕ) → b ≤ length s → (groundedᵇ s b ≡ true) ↔ Grounded s b
   -- ---- demand 1: refusals
   -- questions 2 to 9 are all answered yes exactly on accepted problems; the first "no" is what the plain sentences say
   pub accepts : (s g : State) → (firstNo (problemQuestions s g) ≡ allYes) ↔ Accepted s g
   pub refuses : (s g : State) (k p : ℕ) → (firstNo (problemQuestions s g) ≡ no′ k p) ↔ Refused s g k p
+  -- a check answers 0 and 0 exactly on accepted problems, and otherwise the first "no"
+  pub check-accepts : (s g : State) → (checkAnswer s g ≡ record { number = 0; place = 0 }) ↔ Accepted s g
+  pub check-refuses : (s g : State) (k p : ℕ) → Refused s g k p → checkAnswer s g ≡ record { number = k; place = p }
   pub plan-refuses : (m : ℕ) (s g : State) (space : List ℕ) (k p : ℕ) → (firstNo (planQuestions m s g space) ≡ no′ k p) ↔ PlanRefused m s g space k p
   pub deadlock-refuses : (s g : State) (space : List ℕ) (k p : ℕ) → (firstNo (deadlockQuestions s g space) ≡ no′ k p) ↔ DeadlockRefused s g space k p
   pub replay-refuses : (s g : State) (lifts : List ℕ) (k p : ℕ) → (firstNo (replayQuestions s g lifts) ≡ no′ k p) ↔ ReplayRefused s g lifts k p
@@ -84,17 +91,34 @@ pub record Theorems : Type 0 where
       → (replayAnswer s g lifts ≡ record { number = 0; verdict = v; place = k }) ↔ Replayed s g (moves lifts) v k
   -- question 13 is never answered no
   pub never-13 : (m : ℕ) (s g : State) (space : List ℕ) (p : ℕ) → ¬ PlanRefused m s g space 13 p
+  -- ---- the counts, and lists of numbers as lists of moves
+  pub changed-counts : (s g : State) → Counts (λ b. support s b ≢ support g b) (length s) (changed s g)
+  pub misplaced-counts : (s g : State) → Proper s → Counts (Misplaced s g) (length s) (misplacedCount s g)
+  pub pairs-back : (p : Plan) → moves (flat p) ≡ p
+  pub pairs-forth : (l : List ℕ) → length l % 2 ≡ 0 → flat (moves l) ≡ l
   -- ---- demand 2: replay and the deadlock test
   -- each verdict and place exactly where its sentence holds; verdict 0 exactly when the plan is legal and ends in the goal
   pub replay-verdict : (s g : State) → length g ≡ length s → (p : Plan) (v k : ℕ)
       → (replayFrom 1 s g p ≡ record { number = 0; verdict = v; place = k }) ↔ Replayed s g p v k
   pub replay-arrives : (s g : State) → length g ≡ length s → (p : Plan) → ((replayFrom 1 s g p) .verdict ≡ 0) ↔ Solves s g p
+  pub replay-says : (s g : State) (lifts : List ℕ)
+      → (replayAnswer s g lifts ≡ record { number = 0; verdict = 0; place = 0 }) ↔ (Accepted s g × (length lifts % 2 ≡ 0) × Solves s g (moves lifts))
+  -- document 01's d: misplaced, at or beneath b in the goal, on a c that is in position
+  pub last-misplaced : (s g : State) → Problem s g → (b : ℕ) → Misplaced s g b → (d : ℕ) → d ≡ lastMisplaced s g (length s) b
+      → Misplaced s g d × InPosition s g (support g d) × ((k : ℕ) × (down g k b ≡ d))
+  -- the successor of b is a misplaced clear block above what is in b's way, and b is above that in the goal; the loop is closed under successors
+  pub successor-waits : (s g : State) → Problem s g → NoneReady s g → (b : ℕ) → Waiting s g b
+      → Waiting s g (successor s g b) × Above s (successor s g b) (blocker s g b) × Above g b (blocker s g b)
+  pub loop-closed : (s g : State) → Problem s g → NoneReady s g → (b : ℕ) → Misplaced s g b → IsLoop s g (loop s g)
   -- the test says none exactly when nothing is deadlocked at the start; what it shows otherwise is deadlocked at the start
   pub deadlock-none : (s g : State) → Problem s g → (length (deadlockLoop s g) ≡ 0) ↔ NoDeadlock s g
   pub deadlock-shown : (s g : State) → Problem s g → length (deadlockLoop s g) ≢ 0 → Shown s g (deadlockLoop s g) (deadlockPairs s g)
   pub deadlock-fits : (s g : State) → Problem s g → length (deadlockPairs s g) ≤ 2 * length s
   -- ---- demand 3: every method gives a plan, and keeps the promise
   pub demand : (m : Method) (s g : State) → Problem s g → (p : Plan) × (outcome m s g ≡ plan p) × Promise m s g p × Economy m s g p
+  -- the list written into the lent space is that plan: it is legal and arrives
+  pub written-solves : (m : Method) (s g : State) (space : List ℕ) → Accepted s g → 4 * length s ≤ length space
+      → Solves s g (moves (take (2 * (planAnswer (numberOf m) s g space) .count) (planSpace (numberOf m) s g space)))
   pub plan-fits : (m : Method) (s g : State) → Problem s g → (p : Plan) → outcome m s g ≡ plan p → 2 * length p ≤ 4 * length s
   -- every legal plan that arrives moves every misplaced block, and so has at least as many moves
   pub moves-all : (s g : State) → Problem s g → (q : Plan) → Solves s g q → (b : ℕ) → Misplaced s g b → Moved b q

@@ -5,6 +5,7 @@ pub mod Move
 pub mod Tests
 pub mod Deadlock
 pub mod Loop
+pub mod Stall
 pub mod Method
 pub mod Question
 pub mod Replay

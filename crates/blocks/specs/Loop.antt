@@ -1,7 +1,7 @@
 -- The loop of a stalled state (document 01, "The loop"; document 001, section 3.3, the Δ sequence). Assumes nothing.
--- Stalled: some block is misplaced and none has a constructive move.
+-- NoneReady: some block is misplaced and none has a constructive move.
 use Prim.Native.Nat.{ℕ, zero, suc}
-use mathlib.Core.Bool.{Bool, true, false, cond, _||_}
+use mathlib.Core.Bool.{Bool, false, cond, _||_}
 use mathlib.Core.List.{List, [], _∷_, _++_}
 use lib.Dec.{eqb}
 use lib.ListN.{length}
@@ -11,16 +11,16 @@ use Rattle.blocks.specs.Tests.{load, clearᵇ, inPositionᵇ, waitingᵇ
 
 -- document 01's d: "Walk down b's goal pile, b left out, to the first slab in position, or the ground; call it c.
 -- Let d be the slab that rests on c in that goal pile, possibly b." The table passes the test for in position.
-unfoldable pub lowestMisplaced : State → State → ℕ → ℕ → ℕ
-lowestMisplaced s g zero b = b
-lowestMisplaced s g (suc k) b = cond (inPositionᵇ s g (support g b)) b (lowestMisplaced s g k (support g b))
+unfoldable pub lastMisplaced : State → State → ℕ → ℕ → ℕ
+lastMisplaced s g zero b = b
+lastMisplaced s g (suc k) b = cond (inPositionᵇ s g (support g b)) b (lastMisplaced s g k (support g b))
 
 -- "the slab through which its successor is in its way (c when c is not clear, else d)".
 abbrev pub inTheWay : State → State → ℕ → ℕ
 inTheWay s g d = cond (clearᵇ s (support g d)) d (support g d)
 
 unfoldable pub blocker : State → State → ℕ → ℕ
-blocker s g b = inTheWay s g (lowestMisplaced s g (length s) b)
+blocker s g b = inTheWay s g (lastMisplaced s g (length s) b)
 
 -- The clear block at the top of b's tower, from b upward.
 unfoldable pub top : State → ℕ → ℕ → ℕ

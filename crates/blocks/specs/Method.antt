@@ -1,13 +1,13 @@
 -- The three methods and the deadlock test as functions (document 01, "The three methods"; document 001, sections 3.1 to 3.3). Assumes nothing.
 use Prim.Native.Nat.{ℕ, zero, suc, _*_}
-use mathlib.Core.Bool.{Bool, true, false, cond}
+use mathlib.Core.Bool.{cond}
 use mathlib.Core.List.{List, [], _∷_, _++_}
 use lib.Dec.{eqb}
 use lib.ListN.{length}
 use Rattle.blocks.specs.State.{State, support, put}
-use Rattle.blocks.specs.Move.{Move, _⟶_, Plan, after}
+use Rattle.blocks.specs.Move.{_⟶_, Plan, after}
 use Rattle.blocks.specs.Search.{lowest}
-use Rattle.blocks.specs.Tests.{misplacedᵇ, readyᵇ, stuckᵇ, misplacedCount}
+use Rattle.blocks.specs.Tests.{readyᵇ, perchedᵇ, misplacedCount}
 use Rattle.blocks.specs.Loop.{loop, lowestOf, onward, blockedPairs}
 
 -- What a method does next: nothing more, a move, or, at question 13, nothing for want of a block to put down.
@@ -50,8 +50,8 @@ toGoal g zero other = other
 toGoal g (suc i) other = go (suc i) (support g (suc i))
 
 -- "the lowest-numbered misplaced clear slab off the ground".
-unfoldable pub lowestStuck : State → State → ℕ
-lowestStuck s g = lowest (stuckᵇ s g) (length s)
+unfoldable pub lowestPerched : State → State → ℕ
+lowestPerched s g = lowest (perchedᵇ s g) (length s)
 
 -- "the lowest-numbered slab with a constructive lift".
 unfoldable pub lowestReady : State → State → ℕ
@@ -63,7 +63,7 @@ lowestOnLoop s g = lowestOf s (loop s g)
 
 -- The steps of the first loop of US, and of constructive moves alone.
 unfoldable pub clearing : State → State → Step
-clearing g s = toTable (lowestStuck s g) stop
+clearing g s = toTable (lowestPerched s g) stop
 
 unfoldable pub building : State → State → Step
 building g s = toGoal g (lowestReady s g) stop
@@ -84,7 +84,7 @@ pub data Method : Type 0 where
 
 unfoldable pub outcome : Method → State → State → Outcome
 outcome Us s g = andThen s (iterate (clearing g) (fuel s) s) (λ t. iterate (building g) (fuel s) t)
-outcome Gn1 s g = iterate (solving lowestStuck g) (fuel s) s
+outcome Gn1 s g = iterate (solving lowestPerched g) (fuel s) s
 outcome Gn2 s g = iterate (solving lowestOnLoop g) (fuel s) s
 
 -- The state at the end of an outcome.

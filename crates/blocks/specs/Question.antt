@@ -1,5 +1,5 @@
 -- The questions put to a problem, in order (document 01, "Questions put to a sheet, in order"), as functions and as plain properties. Assumes nothing.
-use Prim.Native.Nat.{ℕ, zero, suc, pred, _≤_, _<_}
+use Prim.Native.Nat.{ℕ, pred, _≤_, _<_}
 use mathlib.Core.Path.{_≡_}
 use mathlib.Core.Logic.{_≢_}
 use mathlib.Core.Bool.{Bool, true, false, not, _&&_}
@@ -16,12 +16,12 @@ pub data Question : Type 0 where
   asks : ℕ → Bool → ℕ → Question
 
 -- What a list of questions comes to: all yes, or the first "no" with its number and place.
-pub data Verdict : Type 0 where
-  allYes : Verdict
-  no′ : ℕ → ℕ → Verdict
+pub data Asked : Type 0 where
+  allYes : Asked
+  no′ : ℕ → ℕ → Asked
 
 -- document 01: "A "no" ends with that number. [..] A number is given only on its own "no", after a yes to all before it".
-abbrev pub firstNo : List Question → Verdict
+abbrev pub firstNo : List Question → Asked
 firstNo [] = allYes
 firstNo (asks k true p ∷ qs) = firstNo qs
 firstNo (asks k false p ∷ qs) = no′ k p
@@ -45,7 +45,7 @@ badSupport s = lowest (sharesᵇ s) (length s)
 unfoldable pub ungrounded : State → ℕ
 ungrounded s = lowest (λ b. not (groundedᵇ s b)) (length s)
 
--- Three questions of one state, numbered from k: 4, 5, 6 for now, and "7, 8, 9. The same three for the goal."
+-- Three questions of one state, with their numbers: 4, 5, 6 for now, and "7, 8, 9. The same three for the goal."
 unfoldable pub stateQuestions : ℕ → ℕ → ℕ → State → List Question
 stateQuestions k₁ k₂ k₃ s = asksNone k₁ (badEntry s) ∷ asksNone k₂ (badSupport s) ∷ asksNone k₃ (ungrounded s) ∷ []
 

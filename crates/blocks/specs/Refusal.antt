@@ -20,7 +20,8 @@ pub data PlanRefused (m : ℕ) (s g : State) (space : List ℕ) : ℕ → ℕ �
   method : ¬ IsMethod m → PlanRefused m s g space 1 0
   problem : {k p : ℕ} → IsMethod m → Refused s g k p → PlanRefused m s g space k p
   room : IsMethod m → Accepted s g → length space < 4 * length s → PlanRefused m s g space 10 0
-  stuck : IsMethod m → Accepted s g → 4 * length s ≤ length space → planOutcome m s g ≡ nothingToPutDown → PlanRefused m s g space 13 0
+  -- this never happens: `never-13` of Demands
+  noBlock : IsMethod m → Accepted s g → 4 * length s ≤ length space → planOutcome m s g ≡ nothingToPutDown → PlanRefused m s g space 13 0
 
 -- The deadlock test, questions 2 to 10.
 pub data DeadlockRefused (s g : State) (space : List ℕ) : ℕ → ℕ → Type 0 where

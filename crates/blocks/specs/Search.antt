@@ -1,9 +1,7 @@
 -- Searching and counting over the numbers 1 to n. The tie-break "lowest-numbered" of document 01 is `lowest`, here and nowhere else.
 -- Assumes nothing.
 use Prim.Native.Nat.{ℕ, zero, suc, _+_, _≤_, _<_}
-use mathlib.Core.Path.{_≡_}
 use mathlib.Core.Bool.{Bool, true, false}
-use lib.Dec.{T}
 
 -- x where the test passed, 0 where it failed.
 abbrev pub pick : Bool → ℕ → ℕ
@@ -24,6 +22,12 @@ lowest P (suc n) = orElse (lowest P n) (pick (P (suc n)) (suc n))
 unfoldable pub count : (ℕ → Bool) → ℕ → ℕ
 count P zero = 0
 count P (suc n) = pick (P (suc n)) 1 + count P n
+
+-- c of the numbers from 1 to n have P: `count` said of a property.
+pub data Counts (P : ℕ → Type 0) : ℕ → ℕ → Type 0 where
+  start : Counts P 0 0
+  counted : {n c : ℕ} → Counts P n c → P (suc n) → Counts P (suc n) (suc c)
+  passed : {n c : ℕ} → Counts P n c → ¬ P (suc n) → Counts P (suc n) c
 
 -- b is the lowest number from 1 to n of which P holds: `lowest` said of a property.
 pub record Lowest (P : ℕ → Type 0) (n b : ℕ) : Type 0 where

@@ -1,8 +1,8 @@
--- The notions that the methods ask for, as tests that compute. Each agrees with its notion on proper states (proofs/TestLaws).
--- Each stands here once: in position, clear, has a constructive move (`readyᵇ`), must be put down first (`stuckᵇ`).
+-- The notions that the methods ask for, as tests that compute. Each agrees with its notion on proper states (`Theorems`, in Demands).
+-- Each stands here once: in position, clear, has a constructive move (`readyᵇ`), must be put down first (`perchedᵇ`: a misplaced clear block off the table).
 -- Assumes nothing.
 use Prim.Native.Nat.{ℕ, zero, suc, _+_}
-use mathlib.Core.Bool.{Bool, true, false, not, _&&_, _||_}
+use mathlib.Core.Bool.{Bool, not, _&&_, _||_}
 use lib.Dec.{eqb}
 use lib.ListN.{length}
 use Rattle.blocks.specs.State.{State, support, down}
@@ -41,8 +41,8 @@ unfoldable pub readyᵇ : State → State → ℕ → Bool
 readyᵇ s g b = waitingᵇ s g b && (clearᵇ s (support g b) && inPositionᵇ s g (support g b))
 
 -- b is one of those that may have to be put down first: a misplaced clear block off the table.
-unfoldable pub stuckᵇ : State → State → ℕ → Bool
-stuckᵇ s g b = waitingᵇ s g b && not (eqb (support s b) 0)
+unfoldable pub perchedᵇ : State → State → ℕ → Bool
+perchedᵇ s g b = waitingᵇ s g b && not (eqb (support s b) 0)
 
 -- How many blocks are misplaced.
 unfoldable pub misplacedCount : State → State → ℕ
