@@ -1,10 +1,10 @@
 -- Laws of supports, of one changed entry, and of steps down. Assumes nothing.
 use mathlib.Core.Path.{_≡_, refl, ap, _∙_}
 use mathlib.Core.Logic.{_≢_}
-use Prim.Native.Nat.{ℕ, zero, suc, _+_, _≤_, _<_}
+use Prim.Native.Nat.{ℕ, zero, suc, _+_, _-_, _≤_, _<_}
 use native.Mathlib.Omega.{arith}
 use native.Mathlib.Nat.{add-zero, add-suc, le-of-suc-le-suc}
-use lib.ListN.{length, length-set, List·getD-eq-default}
+use lib.ListN.{length, getD, set, length-set, List·getD-eq-default}
 use lib.Seq.{getD-set-same, getD-set-other, ext-getD}
 use Rattle.blocks.specs.State.{State, Block, support, put, down}
 use Rattle.blocks.proofs.Reflect.{not-not, leb-reflects}
@@ -39,6 +39,15 @@ pub support-put-other : (s : State) (b x c : ℕ) → c ≢ b → support (put s
 support-put-other s zero x c h = refl
 support-put-other s (suc i) x zero h = refl
 support-put-other s (suc i) x (suc j) h = getD-set-other s i j x 0 (λ e. h (ap suc e))
+
+-- a block's entry stands one place before its number
+pub support-at : (s : State) (b : ℕ) → 1 ≤ b → support s b ≡ getD s (b - 1) 0
+support-at s zero h = absurd (omega arith)
+support-at s (suc i) h = ap (λ k. getD s k 0) (omega arith)
+
+pub put-at : (s : State) (b x : ℕ) → 1 ≤ b → put s b x ≡ set s (b - 1) x
+put-at s zero x h = absurd (omega arith)
+put-at s (suc i) x h = ap (λ k. set s k x) (omega arith)
 
 -- ---- steps down
 

@@ -1,0 +1,59 @@
+-- `first_unreached` meets its contract. The invariant: the blocks from 1 to i were reached. Assumes nothing.
+use borrow.Author.Needs.{needs}
+use Prim.Native.Nat.{_-_}
+use Rattle.problem.proofs.CountLaws.{Reached, reached-begin, reached-next, reached-found, reached-all}
+use Rattle.problem.proofs.first_unreached.Statement.{statement}
+use Rattle.problem.proofs.first_unreached.Tie as tie
+
+abbrev Inv-loop : tie.InvT-loop
+Inv-loop stands n i₀ i = Reached stands n i
+
+abbrev μ-loop : tie.MeasureT-loop
+μ-loop stands n i₀ i = n - i
+
+loop-holds : tie.Need-loop-holds Inv-loop μ-loop
+loop-holds c = search (needs, reached-begin)
+
+add-if1 : tie.Need-add-if1 Inv-loop μ-loop
+add-if1 c = search needs
+
+mul-if1 : tie.Need-mul-if1 Inv-loop μ-loop
+mul-if1 c = search needs
+
+shared-slice-read-if1 : tie.Need-shared-slice-read-if1 Inv-loop μ-loop
+shared-slice-read-if1 c = search needs
+
+add-result : tie.Need-add-result Inv-loop μ-loop
+add-result c = search needs
+
+returns : tie.Need-returns Inv-loop μ-loop
+returns c = reached-found (c .before .before .before .loop .inv) (search needs) (search needs)
+
+add-i : tie.Need-add-i Inv-loop μ-loop
+add-i c = search needs
+
+loop-less : tie.Need-loop-less Inv-loop μ-loop
+loop-less c = search needs
+
+loop-again : tie.Need-loop-again Inv-loop μ-loop
+loop-again c = search (needs, reached-next)
+
+returns-2 : tie.Need-returns-2 Inv-loop μ-loop
+returns-2 c = reached-all (c .before .loop .inv) (search needs)
+
+pub first-unreached-spec : {M : Type 1} → statement M
+first-unreached-spec =
+    tie.close
+    (tie.spec
+    Inv-loop
+    μ-loop
+    loop-holds
+    add-if1
+    mul-if1
+    shared-slice-read-if1
+    add-result
+    returns
+    add-i
+    loop-less
+    loop-again
+    returns-2)
