@@ -1,4 +1,4 @@
--- Each arm makes the answer that its fault asks for.
+-- Each arm makes the answer that its fault asks for. Assumes nothing.
 use borrow.Author.Needs.{needs}
 use borrow.Author.Needs.{needs}
 use Rattle.problem.proofs.answer.Statement.{statement}

@@ -1,4 +1,4 @@
--- Every way out answers what the questions come to; the states are surveyed one after the other over the same lent lists.
+-- Every way out answers what the questions come to; the states are surveyed one after the other over the same lent lists. Assumes nothing.
 use mathlib.Core.Logic.{⊎-elim}
 use native.Mathlib.Omega.{arith}
 use Rattle.problem.proofs.CheckLaws.{long-way, uneven-way, goal-way, initial-way}

@@ -1,4 +1,4 @@
--- The three stores make the state and the loads that a legal move leaves.
+-- The three stores make the state and the loads that a legal move leaves. Assumes nothing.
 use borrow.Author.Needs.{needs}
 use Rattle.problem.proofs.MoveLaws.{old-within, old-scaled, new-within, moved-to}
 use borrow.Author.Needs.{needs}

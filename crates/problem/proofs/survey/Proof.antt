@@ -1,4 +1,4 @@
--- Each question is asked by a function of its own; the ways out are laws.
+-- Each question is asked by a function of its own; the ways out are laws. Assumes nothing.
 use borrow.Author.Needs.{needs}
 use Rattle.problem.proofs.SurveyLaws.{entry-fits, shared-fits, floating-fits, ready-to-climb, entry-way, shared-way, floating-way, sound-way}
 use Rattle.problem.proofs.survey.Statement.{statement}

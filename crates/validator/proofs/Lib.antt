@@ -1,0 +1,4 @@
+pub mod CopyLaws
+pub mod FaultLaws
+pub mod FollowLaws
+pub mod ValidateLaws
