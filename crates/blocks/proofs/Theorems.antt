@@ -52,7 +52,7 @@ thrifty m s g p w =
       only = careful-moves-only p s g (w .solves .legal) (w .careful);
       bound = w .bound;
       exact = w .exact;
-      fewest = w .once;
+      one-each = w .once;
     }
 
 demanded : (m : Method) (s g : State) → Problem s g → (p : Plan) × (outcome m s g ≡ plan p) × Promise m s g p × Economy m s g p

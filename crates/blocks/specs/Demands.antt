@@ -44,7 +44,7 @@ pub record Economy (m : Method) (s g : State) (p : Plan) : Type 0 where
   pub bound : length p ≤ measure s g
   pub exact : m ≡ Us → length p ≡ measure s g
   -- without a deadlock GN1 and GN2 write as many moves as blocks are misplaced
-  pub fewest : m ≢ Us → NoDeadlock s g → length p ≡ misplacedCount s g
+  pub one-each : m ≢ Us → NoDeadlock s g → length p ≡ misplacedCount s g
 
 -- What the deadlock test shows, in document 01's letters: the blocks of the loop are b1 to bp, and beside each stands the next d.
 pub record Shown (s g : State) (blocks pairs : List ℕ) : Type 0 where
