@@ -14,7 +14,7 @@ use Rattle.blocks.specs.Search.{lowest}
 use Rattle.blocks.specs.Tests.{misplacedᵇ, misplacedCount, measure}
 use Rattle.blocks.specs.Loop.{loop, top, successor}
 use Rattle.blocks.specs.Method.{plan, precede, andThen, iterate, fuel, lowestPerched, lowestOnLoop, clearing, building, solving, Method, Us, Gn1, Gn2, outcome}
-use Rattle.blocks.specs.Stall.{NoneReady, Perched, Waiting}
+use Rattle.blocks.specs.Stall.{NoneReady, Perched, Waiting, Moves}
 use Rattle.blocks.proofs.Reflect.{from-true, not-not, eqb-reflects}
 use Rattle.blocks.proofs.SearchLaws.{lowest-passes, lowest-none, count-none}
 use Rattle.blocks.proofs.StateLaws.{support-put-other, down-table}
@@ -27,7 +27,7 @@ use Rattle.blocks.proofs.StallLaws.{top-clear, waiting-above, successor
 use Rattle.blocks.proofs.LoopLaws.{loop-closed, loop-deadlock, loop-perched, lowest-of-loop}
 use Rattle.blocks.proofs.MeasureLaws.{measure-le, misplaced-le, fewer, measure-once}
 use Rattle.blocks.proofs.RunLaws.{Run, runs, run-end, run-legal, run-careful, run-takes, run-bound, run-with, after-append, legal-append, careful-append}
-use Rattle.blocks.proofs.StepLaws.{Moves, Solving, Picks, PutsDown, clearing-steps, building-steps, solving-steps, solving-moves, moves-legal, moves-careful, moves-measure, clears-measure, perched-none, perched-found}
+use Rattle.blocks.proofs.StepLaws.{Solving, Picks, PutsDown, clearing-steps, building-steps, solving-steps, solving-moves, moves-legal, moves-careful, moves-measure, clears-measure, perched-none, perched-found}
 
 -- ---- what is misplaced, and what is put down
 

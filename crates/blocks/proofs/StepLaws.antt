@@ -10,7 +10,7 @@ use Rattle.blocks.specs.Position.{Problem}
 use Rattle.blocks.specs.Move.{Legal, Constructive, Careful}
 use Rattle.blocks.specs.Tests.{readyᵇ, perchedᵇ, misplacedCount, measure}
 use Rattle.blocks.specs.Method.{stop, noBlock, toTable, toGoal, lowestPerched, lowestReady, clearing, building, solving}
-use Rattle.blocks.specs.Stall.{NoneReady, Perched}
+use Rattle.blocks.specs.Stall.{NoneReady, Perched, Moves}
 use Rattle.blocks.proofs.Reflect.{Reflects, holds, fails, from-true, from-false, eqb-reflects}
 use Rattle.blocks.proofs.SearchLaws.{lowest-passes, lowest-none}
 use Rattle.blocks.proofs.ClearLaws.{clear-table}
@@ -57,19 +57,14 @@ module _ {s g : State} (p : Problem s g) where
 
 -- ---- moves
 
--- a move of a method: constructive, or of a perched block to the table, in methods 2 and 3 only where nothing is ready
-pub data Moves (s g : State) (a x : ℕ) : Type 0 where
-  builds : Constructive s g a x → Moves s g a x
-  clears : Perched s g a → x ≡ 0 → Moves s g a x
-
 module _ {s g : State} {a x : ℕ} (p : Problem s g) where
   pub moves-legal : Moves s g a x → Legal s a x
-  moves-legal (builds c) = c .legal
-  moves-legal (clears w e) = subst (Legal s a) (sym e) (perched-legal p w)
+  moves-legal (Moves.builds c) = c .legal
+  moves-legal (Moves.clears w e) = subst (Legal s a) (sym e) (perched-legal p w)
 
   pub moves-careful : Moves s g a x → Careful s g a x
-  moves-careful (builds c) = record { misplaced = c .misplaced; target = inr (c .home) }
-  moves-careful (clears w e) = record { misplaced = w .0 .0; target = inl e }
+  moves-careful (Moves.builds c) = record { misplaced = c .misplaced; target = inr (c .home) }
+  moves-careful (Moves.clears w e) = record { misplaced = w .0 .0; target = inl e }
 
   -- a put-down takes exactly 1 from the measure, and every move takes some
   pub clears-measure : Perched s g a → x ≡ 0 → measure s g ≡ suc (measure (put s a x) g)
@@ -77,8 +72,8 @@ module _ {s g : State} {a x : ℕ} (p : Problem s g) where
       subst (λ y. measure s g ≡ suc (measure (put s a y) g)) (sym e) (measure-table p (perched-legal p w) (w .0 .0) (w .1))
 
   pub moves-measure : Moves s g a x → suc (measure (put s a x) g) ≤ measure s g
-  moves-measure (builds c) = measure-constructive p c
-  moves-measure (clears w e) = omega (arith, clears-measure w e)
+  moves-measure (Moves.builds c) = measure-constructive p c
+  moves-measure (Moves.clears w e) = omega (arith, clears-measure w e)
 
 -- ---- steps
 

@@ -27,6 +27,11 @@ Ready s g b = Constructive s g b (support g b)
 abbrev pub NoneReady : State → State → Type 0
 NoneReady s g = (b : ℕ) → ¬ Ready s g b
 
+-- A move that a method makes: constructive, or of a misplaced clear block off the table to the table.
+pub data Moves (s g : State) (a x : ℕ) : Type 0 where
+  builds : Constructive s g a x → Moves s g a x
+  clears : Perched s g a → x ≡ 0 → Moves s g a x
+
 -- A list of misplaced clear blocks, each followed by its successor, the last by the first.
 pub record IsLoop (s g : State) (l : List ℕ) : Type 0 where
   pub some : 1 ≤ length l
