@@ -1,0 +1,274 @@
+"""Document 01 read literally: the questions, the three methods, the deadlock test and replay.
+
+An arrangement is a list of n numbers: entry i - 1 says what slab i rests on, 0 for the ground.
+Each function follows its sentence and none is meant to be fast. `shortest` and `deadlocked`
+decide by search what the document only defines.
+"""
+
+from collections import deque
+from collections.abc import Sequence
+
+Yard = Sequence[int]
+Pair = tuple[int, int]
+
+MOST = 4000
+
+
+def slabs(yard: Yard) -> range:
+    """The numbers of the slabs, lowest first."""
+    return range(1, len(yard) + 1)
+
+
+def clear(yard: Yard, place: int) -> bool:
+    """Whether no slab rests on it; the ground is always clear."""
+    return place == 0 or place not in yard
+
+
+def beneath(yard: Yard, slab: int) -> list[int]:
+    """The slabs that a slab is above, from its support down; the ground is none."""
+    found: list[int] = []
+    while yard[slab - 1] != 0:
+        slab = yard[slab - 1]
+        found.append(slab)
+    return found
+
+
+def top(yard: Yard, slab: int) -> int:
+    """The clear slab of the pile that holds a slab: itself, or the one above it."""
+    while not clear(yard, slab):
+        slab = yard.index(slab) + 1
+    return slab
+
+
+def in_position(now: Yard, goal: Yard, slab: int) -> bool:
+    """Whether it and every slab beneath it rest now on what they rest on in the goal."""
+    return all(now[s - 1] == goal[s - 1] for s in [slab, *beneath(now, slab)])
+
+
+def misplaced(now: Yard, goal: Yard) -> list[int]:
+    """The slabs that are not in position, lowest first."""
+    return [s for s in slabs(now) if not in_position(now, goal, s)]
+
+
+def is_lift(yard: Yard, slab: int, destination: int) -> bool:
+    """Whether a clear slab goes to the ground or another clear slab, and not to where it rests."""
+    return (
+        clear(yard, slab)
+        and clear(yard, destination)
+        and destination != slab
+        and destination != yard[slab - 1]
+    )
+
+
+def lifted(yard: Yard, slab: int, destination: int) -> list[int]:
+    """The yard after a lift: that slab's entry becomes the destination."""
+    return [destination if s == slab else yard[s - 1] for s in slabs(yard)]
+
+
+def is_constructive(now: Yard, goal: Yard, slab: int) -> bool:
+    """Whether a misplaced slab has a lift to its goal support, the ground or a slab in position."""
+    support = goal[slab - 1]
+    return (
+        not in_position(now, goal, slab)
+        and is_lift(now, slab, support)
+        and (support == 0 or in_position(now, goal, support))
+    )
+
+
+def constructive(now: Yard, goal: Yard) -> int:
+    """The lowest-numbered slab that has a constructive lift; 0 where none has."""
+    return next((s for s in slabs(now) if is_constructive(now, goal, s)), 0)
+
+
+def to_put_down(now: Yard, goal: Yard) -> int:
+    """The lowest-numbered misplaced clear slab off the ground; 0 where there is none."""
+    return next((s for s in misplaced(now, goal) if clear(now, s) and now[s - 1] != 0), 0)
+
+
+def arrangement_fault(yard: Yard) -> tuple[int, int]:
+    """The first "no" to one arrangement's three questions: 1, 2 or 3 and the place; 0, 0 for none."""
+    n = len(yard)
+    for slab in slabs(yard):
+        if yard[slab - 1] > n:
+            return 1, slab
+    rested_on: set[int] = set()
+    for slab in slabs(yard):
+        if yard[slab - 1] != 0 and yard[slab - 1] in rested_on:
+            return 2, slab
+        rested_on.add(yard[slab - 1])
+    for slab in slabs(yard):
+        at, steps = slab, 0
+        while at != 0 and steps < n:
+            at, steps = yard[at - 1], steps + 1
+        if at != 0:
+            return 3, slab
+    return 0, 0
+
+
+def check(now: Yard, goal: Yard) -> tuple[int, int]:
+    """Questions 2 to 9: the number and the place of the first "no"; 0, 0 where all get a yes."""
+    if len(now) > MOST:
+        return 2, 0
+    if len(goal) != len(now):
+        return 3, 0
+    for yard, before in ((now, 3), (goal, 6)):
+        fault, place = arrangement_fault(yard)
+        if fault != 0:
+            return before + fault, place
+    return 0, 0
+
+
+def in_the_way(now: Yard, goal: Yard, slab: int) -> int:
+    """The slab through which its successor is in a slab's way: c when c is not clear, else d."""
+    d = slab
+    c = goal[slab - 1]
+    while c != 0 and not in_position(now, goal, c):
+        d = c
+        c = goal[c - 1]
+    return d if clear(now, c) else c
+
+
+def loop(now: Yard, goal: Yard) -> list[int]:
+    """The loop of a stalled yard, from the slab that returns first onward."""
+    visited: list[int] = []
+    slab = next(s for s in misplaced(now, goal) if clear(now, s))
+    while slab not in visited:
+        visited.append(slab)
+        slab = top(now, in_the_way(now, goal, slab))
+    return visited[visited.index(slab) :]
+
+
+def method_us(now: Yard, goal: Yard) -> list[Pair]:
+    """Method 1: all misplaced slabs to the ground, then the constructive lifts."""
+    pairs: list[Pair] = []
+    while slab := to_put_down(now, goal):
+        pairs.append((slab, 0))
+        now = lifted(now, slab, 0)
+    while slab := constructive(now, goal):
+        pairs.append((slab, goal[slab - 1]))
+        now = lifted(now, slab, goal[slab - 1])
+    return pairs
+
+
+def method_gn(method: int, now: Yard, goal: Yard) -> list[Pair] | None:
+    """Methods 2 and 3: constructive lifts, at a stall one slab to the ground; None where there is none."""
+    pairs: list[Pair] = []
+    while misplaced(now, goal):
+        if slab := constructive(now, goal):
+            destination = goal[slab - 1]
+        else:
+            slab = to_put_down(now, goal) if method == 2 else min(loop(now, goal))
+            destination = 0
+        if slab == 0:
+            return None
+        pairs.append((slab, destination))
+        now = lifted(now, slab, destination)
+    return pairs
+
+
+def changed(now: Yard, goal: Yard) -> int:
+    """The count of slabs whose now and goal entries differ."""
+    return sum(now[s - 1] != goal[s - 1] for s in slabs(now))
+
+
+def plan(
+    method: int, now: Yard, goal: Yard, space_len: int
+) -> tuple[int, int, int, int, list[Pair]]:
+    """Planning: number, place, lift count, changed and the pairs written."""
+    if method not in (1, 2, 3):
+        return 1, 0, 0, 0, []
+    number, place = check(now, goal)
+    if number != 0:
+        return number, place, 0, 0, []
+    if space_len < 4 * len(now):
+        return 10, 0, 0, 0, []
+    pairs = method_us(now, goal) if method == 1 else method_gn(method, now, goal)
+    if pairs is None:
+        return 13, 0, 0, 0, []
+    return 0, 0, len(pairs), changed(now, goal), pairs
+
+
+def deadlock(now: Yard, goal: Yard, space_len: int) -> tuple[int, int, int, list[Pair]]:
+    """The deadlock test: number, place, count and the pairs written."""
+    number, place = check(now, goal)
+    if number != 0:
+        return number, place, 0, []
+    if space_len < 2 * len(now):
+        return 10, 0, 0, []
+    yard: Yard = list(now)
+    while slab := constructive(yard, goal):
+        yard = lifted(yard, slab, goal[slab - 1])
+    if not misplaced(yard, goal):
+        return 0, 0, 0, []
+    found = loop(yard, goal)
+    lowest = found.index(min(found))
+    turned = found[lowest:] + found[:lowest]
+    return 0, 0, len(turned), [(s, in_the_way(yard, goal, s)) for s in turned]
+
+
+def lift_fault(yard: Yard, slab: int, destination: int) -> int:
+    """What is bad about a pair, by the four tests in their order; 0 for a lift."""
+    n = len(yard)
+    if not 1 <= slab <= n or destination > n:
+        return 1
+    if not clear(yard, slab):
+        return 2
+    if yard[slab - 1] == destination:
+        return 3
+    if destination == slab or not clear(yard, destination):
+        return 4
+    return 0
+
+
+def replay(now: Yard, goal: Yard, lifts: Sequence[int]) -> tuple[int, int, int]:
+    """Replay: number, verdict and place; the verdict of a refusal is 0 and the place is the refusal's."""
+    number, place = check(now, goal)
+    if number != 0:
+        return number, 0, place
+    if len(lifts) % 2 != 0:
+        return 11, 0, 0
+    yard: Yard = list(now)
+    for k in range(len(lifts) // 2):
+        slab, destination = lifts[2 * k], lifts[2 * k + 1]
+        verdict = lift_fault(yard, slab, destination)
+        if verdict != 0:
+            return 0, verdict, k + 1
+        yard = lifted(yard, slab, destination)
+    for slab in slabs(yard):
+        if yard[slab - 1] != goal[slab - 1]:
+            return 0, 5, slab
+    return 0, 0, 0
+
+
+def all_lifts(yard: Yard) -> list[Pair]:
+    """Every pair that is a lift in a yard."""
+    return [(s, d) for s in slabs(yard) for d in range(len(yard) + 1) if is_lift(yard, s, d)]
+
+
+def shortest(now: Yard, goal: Yard) -> int:
+    """The fewest lifts of an accepted sheet of at most 7 slabs, by breadth-first search."""
+    wished = tuple(goal)
+    far = {tuple(now): 0}
+    waiting = deque(far)
+    while waiting:
+        yard = waiting.popleft()
+        if yard == wished:
+            return far[yard]
+        for slab, destination in all_lifts(yard):
+            after = tuple(lifted(yard, slab, destination))
+            if after not in far:
+                far[after] = far[yard] + 1
+                waiting.append(after)
+    raise ValueError("the goal is not reached")
+
+
+def deadlocked(now: Yard, goal: Yard) -> bool:
+    """Whether some slabs are deadlocked: a cycle of "some d is beneath b' now and beneath b in the goal"."""
+    left = set(misplaced(now, goal))
+    lower = {s: set(beneath(now, s)) for s in left}
+    wished = {s: set(beneath(goal, s)) for s in left}
+    while True:
+        waits = {b for b in left if any(wished[b] & lower[other] for other in left)}
+        if waits == left:
+            return bool(left)
+        left = waits
