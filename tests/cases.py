@@ -61,17 +61,24 @@ def answer(case: Case) -> str:
     return " ".join(map(str, numbers)) + "\n"
 
 
-# The sheets of document 01 with their ends: now, goal, the list of a method, the deadlock pairs.
-SHEETS: list[tuple[list[int], list[int], int, list[Pair], list[Pair]]] = [
+# The sheets of document 01 with their ends: now, goal, the list of a method, and the deadlock pairs where it states them.
+SHEETS: list[tuple[list[int], list[int], int, list[Pair], list[Pair] | None]] = [
     ([], [], 1, [], []),
     ([2, 0], [0, 1], 2, [(1, 0), (2, 1)], []),
-    ([0, 0, 1], [2, 3, 0], 1, [(3, 0), (2, 3), (1, 2)], []),
-    ([0, 0, 1], [2, 3, 0], 2, [(3, 0), (2, 3), (1, 2)], []),
-    ([0, 0, 1], [2, 3, 0], 3, [(3, 0), (2, 3), (1, 2)], []),
+    ([0, 0, 1], [2, 3, 0], 1, [(3, 0), (2, 3), (1, 2)], None),
+    ([0, 0, 1], [2, 3, 0], 2, [(3, 0), (2, 3), (1, 2)], None),
+    ([0, 0, 1], [2, 3, 0], 3, [(3, 0), (2, 3), (1, 2)], None),
     ([2, 0, 4, 0], [4, 0, 2, 0], 2, [(1, 0), (3, 2), (1, 4)], [(1, 4), (3, 2)]),
     ([2, 3, 0, 5, 0], [5, 0, 0, 3, 2], 2, [(1, 0), (2, 0), (4, 3), (5, 2), (1, 5)], [(1, 2)]),
     ([2, 3, 0, 5, 0], [5, 0, 0, 3, 2], 3, [(1, 0), (2, 0), (4, 3), (5, 2), (1, 5)], [(1, 2)]),
-    ([2, 3, 0], [2, 0, 0], 2, [(1, 0), (2, 0), (1, 2)], [(1, 2)]),
+    ([2, 3, 0], [2, 0, 0], 2, [(1, 0), (2, 0), (1, 2)], None),
+]
+
+# Lift counts of method 1, and "changed", that it states without a list: now, goal, lifts, changed.
+COUNTS: list[tuple[list[int], list[int], int | None, int | None]] = [
+    ([2, 0, 4, 0], [4, 0, 2, 0], 4, None),
+    ([2, 3, 0, 5, 0], [5, 0, 0, 3, 2], 6, None),
+    ([2, 3, 0], [2, 0, 0], None, 1),
 ]
 
 # The other answers that document 01 states.
@@ -92,11 +99,15 @@ def misread() -> list[str]:
     wrong = [f"{case}: {answer(case)}" for case, wished in STATED if answer(case) != wished]
     for now, goal, method, pairs, loop in SHEETS:
         n = len(now)
-        count = reading.changed(now, goal)
-        if reading.plan(method, now, goal, 4 * n) != (0, 0, len(pairs), count, pairs):
+        number, place, count, _, written = reading.plan(method, now, goal, 4 * n)
+        if (number, place, count, written) != (0, 0, len(pairs), pairs):
             wrong.append(f"method {method} on {now} / {goal}")
-        if reading.deadlock(now, goal, 2 * n) != (0, 0, len(loop), loop):
+        if loop is not None and reading.deadlock(now, goal, 2 * n) != (0, 0, len(loop), loop):
             wrong.append(f"deadlock of {now} / {goal}")
+    for now, goal, lifts, differing in COUNTS:
+        _, _, count, changed, _ = reading.plan(1, now, goal, 4 * len(now))
+        if lifts not in (None, count) or differing not in (None, changed):
+            wrong.append(f"counts of {now} / {goal}")
     return wrong
 
 

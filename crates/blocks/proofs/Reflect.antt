@@ -1,13 +1,10 @@
--- A test that computes beside the property that it decides: `Reflects P t` says that the test t is true exactly where P holds. Assumes nothing.
+-- Laws of tests beside the properties that they decide. Assumes nothing.
+pub use Rattle.blocks.specs.Reflect.{Reflects, holds, fails}
 use mathlib.Core.Path.{_≡_, refl, sym, subst}
 use mathlib.Core.Logic.{_⊎_, inl, inr}
 use mathlib.Core.Bool.{Bool, true, false, not, _&&_, _||_, true≢false, false≢true}
 use Prim.Native.Nat.{ℕ, suc, _≤_, _<_}
 use lib.Dec.{T, eqb, leb, ltb, eqb→eq, eqb-refl, leb→le, le→leb}
-
-pub data Reflects (P : Type 0) : Bool → Type 0 where
-  holds : P → Reflects P true
-  fails : ¬ P → Reflects P false
 
 module _ {P : Type 0} where
   pub from-true : {t : Bool} → Reflects P t → t ≡ true → P

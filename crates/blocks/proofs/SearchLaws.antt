@@ -8,7 +8,7 @@ use native.Mathlib.Numerals.{add-one, one-add}
 use native.Mathlib.Nat.{zero-add}
 use borrow.Author.Count.{below-more}
 use Rattle.blocks.specs.Search.{pick, orElse, lowest, count, Counts, start, counted, passed, Lowest}
-use Rattle.blocks.proofs.Reflect.{Reflects, holds, fails, from-true, from-false, to-true, to-false, same?}
+use Rattle.blocks.proofs.Reflect.{Reflects, holds, fails, from-true, from-false, to-true, to-false, decided, leb-reflects, same?}
 
 -- what holds from 1 to n and of n + 1 holds from 1 to n + 1
 upto : (Q : ℕ → Type 0) (n : ℕ) → ((c : ℕ) → 1 ≤ c → c ≤ n → Q c) → Q (suc n) → (c : ℕ) → 1 ≤ c → c ≤ suc n → Q c
@@ -218,3 +218,15 @@ scan-none P n i l h = sym (lowest-zero P n at)
 pub count-next : (P : ℕ → Bool) (i : ℕ) → count P (i + 1) ≡ pick (P (suc i)) 1 + count P i
 unfolding count
 count-next P i = rw (add-one i)
+
+-- where nothing beyond n passes, a search that goes further finds the same
+pub lowest-beyond : (P : ℕ → Bool) (n m : ℕ) → n ≤ m → ((c : ℕ) → n < c → P c ≡ false) → lowest P m ≡ lowest P n
+lowest-beyond P n m h beyond = by (same? (lowest P n) 0)
+  where
+    by : (lowest P n ≡ 0) ⊎ (¬ (lowest P n ≡ 0)) → lowest P m ≡ lowest P n
+    by (inl e) = lowest-zero P m (λ c l k. at c l (decided (leb-reflects c n))) ∙ sym e
+      where
+        at : (c : ℕ) → 1 ≤ c → (c ≤ n) ⊎ (¬ (c ≤ n)) → P c ≡ false
+        at c l (inl k) = lowest-none P n e c l k
+        at c l (inr k) = beyond c (omega (arith, k))
+    by (inr f) = lowest-is P m (lowest P n) (omega (arith, f)) (omega (arith, lowest-le P n)) (lowest-passes P n f) (λ c l k. lowest-first P n c l k)

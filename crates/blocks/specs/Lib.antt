@@ -1,3 +1,4 @@
+pub mod Reflect
 pub mod State
 pub mod Search
 pub mod Position

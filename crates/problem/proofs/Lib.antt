@@ -4,5 +4,6 @@ pub mod CountLaws
 pub mod ClimbLaws
 pub mod MoveLaws
 pub mod DifferenceLaws
+pub mod CopyLaws
 pub mod SurveyLaws
 pub mod CheckLaws

@@ -10,7 +10,7 @@ use Rattle.blocks.specs.Position.{Proper, InPosition}
 use Rattle.blocks.specs.Move.{Legal}
 use Rattle.blocks.specs.Tests.{load}
 use Rattle.blocks.specs.Question.{badEntry, badSupport}
-use Rattle.blocks.proofs.Reflect.{Reflects}
+use Rattle.blocks.specs.Reflect.{Reflects}
 
 -- Every number of the list is 0.
 pub record Zeros (l : List ℕ) : Type 0 where

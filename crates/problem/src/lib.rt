@@ -65,7 +65,7 @@ fn answer(fault: Fault, entry: u16, shared: u16, floating: u16) -> Checked
 }
 
 // What is wrong with a list of supports, and at which block first.
-pub enum Fault {
+enum Fault {
     Sound,
     Entry(u16),
     Shared(u16),
@@ -73,7 +73,7 @@ pub enum Fault {
 }
 
 // The three questions of one state. Where all are answered yes, `load` holds what rests on each block.
-pub fn survey(s: &[u16], load: &mut [u16], stands: &mut [u16]) -> Fault
+fn survey(s: &[u16], load: &mut [u16], stands: &mut [u16]) -> Fault
     requires { ⌜ (length (now s) ≤ 4000) × (length (now s) < length (now load)) × (length (now s) < length (now stands)) ⌝ }
     ensures { λ r. ⌜ Surveyed (now (s .entry)) r (now (load .exit)) ⌝ }
 {
@@ -260,6 +260,19 @@ fn zero(l: &mut [u16])
     let mut i = 0;
     while i < l.len() {
         l[i] = 0;
+        i += 1;
+    }
+}
+
+// Copies one list over another of the same length.
+pub fn copy(from: &[u16], to: &mut [u16])
+    requires { ⌜ length (now to) ≡ length (now from) ⌝ }
+    ensures { λ r. ⌜ now (to .exit) ≡ now (from .entry) ⌝ }
+{
+    let n = from.len();
+    let mut i = 0;
+    while i < n {
+        to[i] = from[i];
         i += 1;
     }
 }

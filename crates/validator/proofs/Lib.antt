@@ -1,4 +1,3 @@
-pub mod CopyLaws
 pub mod FaultLaws
 pub mod FollowLaws
 pub mod ValidateLaws

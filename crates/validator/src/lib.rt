@@ -57,7 +57,7 @@ fn judge_in(
     requires { ⌜ JudgeableIn (now initial) (now goal) (now lifts) (now cur) (now load) ⌝ }
     ensures { λ r. ⌜ Follows (now (initial .entry)) (now (goal .entry)) (now (lifts .entry)) r ⌝ }
 {
-    copy(initial, cur);
+    problem::copy(initial, cur);
     problem::fill_load(initial, load);
     follow(cur, goal, load, lifts)
 }
@@ -123,17 +123,4 @@ fn fault(cur: &[u16], load: &[u16], a: usize, x: usize) -> u16
         return 4;
     }
     0
-}
-
-// Copies one list over another of the same length.
-fn copy(from: &[u16], to: &mut [u16])
-    requires { ⌜ length (now to) ≡ length (now from) ⌝ }
-    ensures { λ r. ⌜ now (to .exit) ≡ now (from .entry) ⌝ }
-{
-    let n = from.len();
-    let mut i = 0;
-    while i < n {
-        to[i] = from[i];
-        i += 1;
-    }
 }

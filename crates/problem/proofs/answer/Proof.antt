@@ -1,6 +1,5 @@
 -- Each arm makes the answer that its fault asks for. Assumes nothing.
 use borrow.Author.Needs.{needs}
-use borrow.Author.Needs.{needs}
 use Rattle.problem.proofs.answer.Statement.{statement}
 use Rattle.problem.proofs.answer.Tie as tie
 

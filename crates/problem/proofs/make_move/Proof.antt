@@ -1,7 +1,6 @@
 -- The three stores make the state and the loads that a legal move leaves. Assumes nothing.
 use borrow.Author.Needs.{needs}
 use Rattle.problem.proofs.MoveLaws.{old-within, old-scaled, new-within, moved-to}
-use borrow.Author.Needs.{needs}
 use Rattle.problem.proofs.make_move.Statement.{statement}
 use Rattle.problem.proofs.make_move.Tie as tie
 

@@ -1,7 +1,6 @@
 -- `judge` meets its contract: it lends the front of the list for the state. Assumes nothing.
 use borrow.Author.Needs.{needs}
 use Rattle.validator.proofs.ValidateLaws.{state-within, part-length, judgeable-in, whole-length}
-use borrow.Author.Needs.{needs}
 use Rattle.validator.proofs.judge.Statement.{statement}
 use Rattle.validator.proofs.judge.Tie as tie
 

@@ -1,7 +1,6 @@
 -- `judge_in` meets its contract: the state is copied, its loads are filled in, and the list is followed. Assumes nothing.
 use borrow.Author.Needs.{needs}
 use Rattle.validator.proofs.ValidateLaws.{fillable, followable, followed}
-use borrow.Author.Needs.{needs}
 use Rattle.validator.proofs.judge_in.Statement.{statement}
 use Rattle.validator.proofs.judge_in.Tie as tie
 

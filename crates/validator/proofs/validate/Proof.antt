@@ -1,7 +1,6 @@
 -- `validate` meets its contract: one law for each way out. Assumes nothing.
 use borrow.Author.Needs.{needs}
 use Rattle.validator.proofs.ValidateLaws.{refused-way, odd-way, judged-way, judgeable}
-use borrow.Author.Needs.{needs}
 use Rattle.validator.proofs.validate.Statement.{statement}
 use Rattle.validator.proofs.validate.Tie as tie
 

@@ -2,9 +2,9 @@
 use borrow.Author.Needs.{needs}
 use Prim.Native.Nat.{_-_}
 use lib.ListN.{length}
-use Rattle.validator.proofs.CopyLaws.{Copying, copying-begin, copying-next, copying-end}
-use Rattle.validator.proofs.copy.Statement.{statement}
-use Rattle.validator.proofs.copy.Tie as tie
+use Rattle.problem.proofs.CopyLaws.{Copying, copying-begin, copying-next, copying-end}
+use Rattle.problem.proofs.copy.Statement.{statement}
+use Rattle.problem.proofs.copy.Tie as tie
 
 abbrev Inv-loop : tie.InvT-loop
 Inv-loop from to₀ n i₀ to i = Copying from to₀ n to i

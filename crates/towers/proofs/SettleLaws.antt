@@ -1,0 +1,248 @@
+-- How the blocks stand after a move of a method: the moved block alone can change, and where it comes into position it is the highest so of its goal tower.
+-- Assumes nothing.
+use Prim.Native.Nat.{ℕ, zero, suc, _+_, _-_, _*_, _≤_, _<_}
+use mathlib.Core.Path.{_≡_, refl, sym, ap, _∙_, subst}
+use mathlib.Core.Logic.{_⊎_, inl, inr, _≢_}
+use mathlib.Core.Bool.{Bool, cond}
+use mathlib.Core.List.{List}
+use native.Mathlib.Omega.{arith}
+use lib.ListN.{length, getD, set, length-set}
+use lib.Seq.{getD-set-same, getD-set-other}
+use mir.Syntax.{w16, w64}
+use mir.Val.{Fits}
+use Rattle.blocks.specs.State.{State, Block, support, put, down}
+use Rattle.blocks.specs.Position.{Problem, InPosition, Misplaced}
+use Rattle.blocks.specs.Move.{Legal, Constructive}
+use Rattle.blocks.specs.Stall.{Moves, builds, clears}
+use Rattle.blocks.specs.Tests.{inPositionᵇ}
+use Rattle.blocks.specs.Loop.{lastMisplaced}
+use Rattle.blocks.proofs.Reflect.{decided, reflects-same, to-true, to-false, leb-reflects, same?}
+use Rattle.blocks.proofs.StateLaws.{length-put, support-at, down-add}
+use Rattle.blocks.proofs.FrameLaws.{support-moved, position-frame, position-unframe, moved-clear, moved-block, problem-moved}
+use Rattle.blocks.proofs.TowerLaws.{Reaches, tower-chain, clear-beneath}
+use Rattle.blocks.proofs.PositionLaws.{position-reflects, position-table, position-down, position-beneath, position-moved, misplaced-block}
+use Rattle.blocks.proofs.StallLaws.{foot}
+use Rattle.blocks.proofs.StepLaws.{moves-legal}
+use Rattle.towers.specs.Towers.{bottom, Settleable, Settled}
+use Rattle.towers.proofs.BottomLaws.{Base, bottom-base, bottom-same, bottom-block}
+
+-- the last misplaced block depends on the positions beneath alone
+last-same : (s t g : State) (k b : ℕ) → ((j : ℕ) → inPositionᵇ t g (down g (suc j) b) ≡ inPositionᵇ s g (down g (suc j) b)) → lastMisplaced t g k b ≡ lastMisplaced s g k b
+unfolding lastMisplaced
+last-same s t g zero b h = refl
+last-same s t g (suc k) b h = by (inPositionᵇ t g (support g b)) (inPositionᵇ s g (support g b)) (h 0) (last-same s t g k (support g b) (λ j. h (suc j)))
+  where
+    by : (u v : Bool) → u ≡ v → lastMisplaced t g k (support g b) ≡ lastMisplaced s g k (support g b)
+        → cond u b (lastMisplaced t g k (support g b)) ≡ cond v b (lastMisplaced s g k (support g b))
+    by u v e r = ap (λ y. cond y b (lastMisplaced t g k (support g b))) e ∙ ap (cond v b) r
+
+module _ {s g : State} {gb st hi : List ℕ} {a x : ℕ} (w : Settleable s g gb st hi a x) where
+  legal : Legal s a x
+  legal = moves-legal (w .problem) (w .move)
+
+  after : Problem (put s a x) g
+  after = problem-moved legal (w .problem)
+
+  moved-misplaced : Misplaced s g a
+  moved-misplaced = by (w .move)
+    where
+      by : Moves s g a x → Misplaced s g a
+      by (builds c) = c .misplaced
+      by (clears p e) = p .0 .0
+
+  landed : InPosition s g x
+  landed = by (w .move)
+    where
+      by : Moves s g a x → InPosition s g x
+      by (builds c) = c .position
+      by (clears p e) = subst (InPosition s g) (sym e) (position-table s g)
+
+  -- the test of every other block is as it was
+  elsewhere : (c : ℕ) → c ≢ a → inPositionᵇ (put s a x) g c ≡ inPositionᵇ s g c
+  elsewhere c h =
+      reflects-same (position-unframe legal h) (position-frame legal h) (position-reflects (put s a x) g (after .initial) c) (position-reflects s g (w .problem .initial) c)
+
+  -- a block misplaced afterwards was misplaced before
+  was-misplaced : {b : ℕ} → Misplaced (put s a x) g b → Misplaced s g b
+  was-misplaced {b} m i = by (same? b a)
+    where
+      by : (b ≡ a) ⊎ (¬ (b ≡ a)) → ⊥
+      by (inl e) = moved-misplaced (subst (InPosition s g) e i)
+      by (inr h) = m (position-frame legal h i)
+
+  -- ---- the block is not where the goal has it
+
+  module _ (off : x ≢ support g a) where
+    still : Misplaced (put s a x) g a
+    still i = off (sym (support-moved legal) ∙ i .agrees 0)
+
+    same-everywhere : (c : ℕ) → inPositionᵇ (put s a x) g c ≡ inPositionᵇ s g c
+    same-everywhere c = by (same? c a)
+      where
+        by : (c ≡ a) ⊎ (¬ (c ≡ a)) → inPositionᵇ (put s a x) g c ≡ inPositionᵇ s g c
+        by (inr h) = elsewhere c h
+        by (inl e) =
+            ap (inPositionᵇ (put s a x) g) e
+            ∙ to-false (position-reflects (put s a x) g (after .initial) a) still
+            ∙ sym (to-false (position-reflects s g (w .problem .initial) a) moved-misplaced)
+            ∙ ap (inPositionᵇ s g) (sym e)
+
+    pub settled-off : Settled (put s a x) g st hi
+    settled-off =
+        record {
+          stands =
+              record {
+                room = rw (length-put s a x) (w .stands .room);
+                at = λ b h. w .stands .at b (rw (length-put s a x) at h) ∙ ap (λ t. cond t 2 1) (sym (same-everywhere b));
+              };
+          highs =
+              record {
+                room = rw (length-put s a x) (w .highs .room);
+                at = λ b m.
+                    w .highs .at b (was-misplaced m)
+                    ∙ ap (support g) (
+                    sym (last-same s (put s a x) g (length s) b (λ j. same-everywhere (down g (suc j) b)))
+                    ∙ ap (λ k. lastMisplaced (put s a x) g k b) (sym (length-put s a x))
+                    );
+              };
+        }
+
+  -- ---- the block comes into position
+
+  module _ (home : x ≡ support g a) where
+    constructive : Constructive s g a x
+    constructive = record { legal = legal; misplaced = moved-misplaced; home = home; position = landed }
+
+    right : InPosition (put s a x) g a
+    right = position-moved constructive
+
+    block-a : Block g a
+    block-a =
+        let k = legal .block in
+        record { low = k .low; high = omega (arith, k .high, w .problem .same) }
+
+    -- a is beneath b in the goal where they stand in one goal tower and b is misplaced
+    beneath : {b : ℕ} → Misplaced (put s a x) g b → bottom g b ≡ bottom g a → Reaches g b a
+    beneath {b} m e = by (tower-chain (w .problem .goal) b a (bottom g a) (p .steps) (q .steps) (p .reaches ∙ e) (q .reaches) (q .block))
+      where
+        k : Block (put s a x) b
+        k = misplaced-block (after .same) m
+
+        block-b : Block g b
+        block-b = record { low = k .low; high = omega (arith, k .high, after .same) }
+
+        p : Base g b (bottom g b)
+        p = bottom-base (w .problem .goal) block-b
+
+        q : Base g a (bottom g a)
+        q = bottom-base (w .problem .goal) block-a
+
+        by : Reaches g b a ⊎ Reaches g a b → Reaches g b a
+        by (inl r) = r
+        by (inr r) = absurd (m (subst (InPosition (put s a x) g) (position-down (put s a x) g a right (r .0) ∙ r .1) (position-beneath right (r .0))))
+
+    -- then a is the first in position on the way down
+    highest : {b : ℕ} → Misplaced (put s a x) g b → bottom g b ≡ bottom g a → a ≡ support g (lastMisplaced (put s a x) g (length (put s a x)) b)
+    highest {b} m e = by (decided (leb-reflects (r .0) (f .2 .0)))
+      where
+        t : State
+        t = put s a x
+
+        d : ℕ
+        d = lastMisplaced t g (length t) b
+
+        f : Misplaced t g d × InPosition t g (support g d) × Reaches g b d
+        f = foot after b m
+
+        r : Reaches g b a
+        r = beneath m e
+
+        by : (r .0 ≤ f .2 .0) ⊎ (¬ (r .0 ≤ f .2 .0)) → a ≡ support g d
+        by (inl l) =
+            let j = f .2 .0 - r .0 in
+            let split : f .2 .0 ≡ j + r .0 = omega arith in
+            let under : down g j a ≡ d = ap (down g j) (sym (r .1)) ∙ sym (down-add g j (r .0) b) ∙ ap (λ i. down g i b) (sym split) ∙ f .2 .1 in
+            absurd (f .0 (subst (InPosition t g) (position-down t g a right j ∙ under) (position-beneath right j)))
+        by (inr n) =
+            let j = r .0 - suc (f .2 .0) in
+            let split : r .0 ≡ j + suc (f .2 .0) = omega (arith, n) in
+            let on : down g (suc (f .2 .0)) b ≡ support g d = Rattle.blocks.proofs.StateLaws.down-suc g (f .2 .0) b ∙ ap (support g) (f .2 .1) in
+            let above : down g j (support g d) ≡ a = ap (down g j) (sym on) ∙ sym (down-add g j (suc (f .2 .0)) b) ∙ ap (λ i. down g i b) (sym split) ∙ r .1 in
+            sym (clear-beneath t (support g d) a j (moved-clear legal) (moved-block legal) (position-down t g (support g d) (f .1) j ∙ above))
+
+    -- in another goal tower nothing changes
+    apart : {b : ℕ} → Misplaced (put s a x) g b → bottom g b ≢ bottom g a → lastMisplaced (put s a x) g (length s) b ≡ lastMisplaced s g (length s) b
+    apart {b} m n = last-same s (put s a x) g (length s) b (λ j. elsewhere (down g (suc j) b) (λ e. n (bottom-same (w .problem .goal) (suc j, e) block-a)))
+
+    pub settled-home : {r : ℕ} → r ≡ getD gb a 0 → Settled (put s a x) g (set st a 2) (set hi r a)
+    settled-home {r} er =
+        record {
+          stands = record { room = rw (length-put s a x, length-set st a 2) (w .stands .room); at = λ b h. stand b (rw (length-put s a x) at h) (same? b a) };
+          highs = record { room = rw (length-put s a x, length-set hi r a) (w .highs .room); at = λ b m. high b m (same? (bottom g b) (bottom g a)) };
+        }
+      where
+        root : r ≡ bottom g a
+        root = er ∙ w .roots .at a (block-a .low) (block-a .high)
+
+        stand : (b : ℕ) → b ≤ length s → (b ≡ a) ⊎ (¬ (b ≡ a)) → getD (set st a 2) b 0 ≡ cond (inPositionᵇ (put s a x) g b) 2 1
+        stand b h (inl e) =
+            ap (λ k. getD (set st a 2) k 0) e
+            ∙ getD-set-same st a 2 0 (omega (arith, w .stands .room, legal .block .high))
+            ∙ ap (λ t. cond t 2 1) (sym (ap (inPositionᵇ (put s a x) g) e ∙ to-true (position-reflects (put s a x) g (after .initial) a) right))
+        stand b h (inr n) = getD-set-other st a b 2 0 n ∙ w .stands .at b h ∙ ap (λ t. cond t 2 1) (sym (elsewhere b n))
+
+        inside : r < length hi
+        inside = omega (arith, root, w .highs .room, w .problem .same, bottom-block (w .problem .goal) block-a .high)
+
+        high : (b : ℕ) → Misplaced (put s a x) g b → (bottom g b ≡ bottom g a) ⊎ (¬ (bottom g b ≡ bottom g a))
+            → getD (set hi r a) (bottom g b) 0 ≡ support g (lastMisplaced (put s a x) g (length (put s a x)) b)
+        high b m (inl e) = ap (λ k. getD (set hi r a) k 0) (e ∙ sym root) ∙ getD-set-same hi r a 0 inside ∙ highest m e
+        high b m (inr n) =
+            getD-set-other hi r (bottom g b) a 0 (λ e. n (e ∙ root))
+            ∙ w .highs .at b (was-misplaced m)
+            ∙ ap (support g) (sym (apart m n) ∙ ap (λ k. lastMisplaced (put s a x) g k b) (sym (length-put s a x)))
+
+-- ---- what the code reads and writes
+
+module _ {s g : State} {gb st hi : List ℕ} {a x : ℕ} (w : Settleable s g gb st hi a x) where
+  pub moved-low : 1 ≤ a
+  moved-low = moves-legal (w .problem) (w .move) .block .low
+
+  pub goal-within : a - 1 < length g
+  goal-within = let k = moves-legal (w .problem) (w .move) .block in omega (arith, k .low, k .high, w .problem .same)
+
+  pub target-within : x < length st
+  target-within = omega (arith, moves-legal (w .problem) (w .move) .inside, w .stands .room)
+
+  pub moved-within : a < length st
+  moved-within = omega (arith, moves-legal (w .problem) (w .move) .block .high, w .stands .room)
+
+  pub root-within : a < length gb
+  root-within = omega (arith, moves-legal (w .problem) (w .move) .block .high, w .problem .same, w .roots .room)
+
+  pub moved-fits : Fits w16 a
+  moved-fits = record { fits = omega (arith, moves-legal (w .problem) (w .move) .block .high, w .small) }
+
+  root-is : {r : ℕ} → r ≡ getD gb a 0 → r ≤ length s
+  root-is e =
+      let k = moves-legal (w .problem) (w .move) .block in
+      let b : Block g a = record { low = k .low; high = omega (arith, k .high, w .problem .same) } in
+      omega (arith, e, w .roots .at a (b .low) (b .high), bottom-block (w .problem .goal) b .high, w .problem .same)
+
+  pub high-within : {r : ℕ} → r ≡ getD gb a 0 → r < length hi
+  high-within e = omega (arith, root-is e, w .highs .room)
+
+  pub high-scaled : {r : ℕ} → r ≡ getD gb a 0 → Fits w64 (r * 2)
+  high-scaled e = record { fits = omega (arith, root-is e, w .small) }
+
+  -- the ways out
+  pub off-way : {y : ℕ} → y ≡ getD g (a - 1) 0 → x ≢ y → Settled (put s a x) g st hi
+  off-way e n = settled-off w (λ h. n (h ∙ support-at g a moved-low ∙ sym e))
+
+  pub never-way : getD st x 0 ≢ 2 → Settled (put s a x) g st hi
+  never-way n =
+      let i = to-true (position-reflects s g (w .problem .initial) x) (landed w) in
+      absurd (n (w .stands .at x (moves-legal (w .problem) (w .move) .inside) ∙ ap (λ t. cond t 2 1) i))
+
+  pub home-way : {y r : ℕ} → y ≡ getD g (a - 1) 0 → x ≡ y → r ≡ getD gb a 0 → Settled (put s a x) g (set st a 2) (set hi r a)
+  home-way e h k = settled-home w (h ∙ e ∙ sym (support-at g a moved-low)) k
