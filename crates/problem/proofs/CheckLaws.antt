@@ -8,7 +8,7 @@ use borrow.Author.Tests.{lt-leb, le-leb, eq-eqb, ne-eqb}
 use lib.Dec.{eqb}
 use lib.ListN.{length}
 use Rattle.blocks.specs.State.{State}
-use Rattle.blocks.specs.Question.{asks, no′, allYes, Asked, firstNo, stateQuestions, problemQuestions}
+use Rattle.blocks.specs.Question.{asks, no′, allYes, firstNo, stateQuestions, problemQuestions}
 use Rattle.blocks.specs.Answer.{checked, checkAnswer}
 use Rattle.blocks.proofs.AnswerLaws.{first-no-append, first-no-front}
 use Rattle.problem.specs.Checked.{askedOf, checkOf, Checks, faultOf, Surveyed}

@@ -69,6 +69,13 @@ stands-some x y m = go (eqb x y && eqb m 2)
     go true = omega arith
     go false = omega arith
 
+stands-small : (x y m : ℕ) → standsAs x y m ≤ 2
+stands-small x y m = go (eqb x y && eqb m 2)
+  where
+    go : (t : Bool) → cond t 2 1 ≤ 2
+    go true = omega arith
+    go false = omega arith
+
 -- a block is in position exactly where it stands as it should
 stands-reflects : (s g : State) (b m : ℕ) → Reflects (InPosition s g (support s b)) (eqb m 2)
     → Reflects (InPosition s g b) (eqb (standsAs (support s b) (support g b) m) 2)
@@ -80,9 +87,9 @@ stands-reflects s g b m below = subst (Reflects (InPosition s g b)) (sym (cond-t
 abbrev Marked : List ℕ → ℕ → Type 0
 Marked st b = getD st b 0 ≢ 0
 
--- what is known of a marked block: it comes down to the table, and its mark says whether it is in position
+-- what is known of a marked block: it comes down to the table, its mark says whether it is in position, and is at most 2
 abbrev Known : State → State → List ℕ → ℕ → Type 0
-Known s g st b = Grounded s b × Reflects (InPosition s g b) (eqb (getD st b 0) 2)
+Known s g st b = Grounded s b × Reflects (InPosition s g b) (eqb (getD st b 0) 2) × (getD st b 0 ≤ 2)
 
 -- The climb before a turn: `block` is to be marked, 0 for none, and the blocks up to `next` have been looked at for those on the table.
 pub record Climbing (s g : State) (n block next : ℕ) (st : List ℕ) : Type 0 where
@@ -116,7 +123,7 @@ module _ {s g : State} where
     inside = omega arith;
     within = omega arith;
     table = here;
-    known = λ b m. only (λ c. Known s g (set st 0 2) c) b m (record { steps = 0; reaches = refl }, rw here (holds (position-table s g)));
+    known = λ b m. only (λ c. Known s g (set st 0 2) c) b m (record { steps = 0; reaches = refl }, rw here (holds (position-table s g)), omega (arith, here));
     came = λ b m. only (λ c. Marked (set st 0 2) (support s c)) b m marked;
     low = λ b m r. only (λ c. c ≤ 0) b m (omega arith);
     fresh = λ m. absurd (m refl);
@@ -214,7 +221,7 @@ module _ {s g : State} where
 
     -- the block itself
     known-here : Known s g new block
-    known-here = (record { steps = suc (below .0 .steps); reaches = below .0 .reaches }, right)
+    known-here = (record { steps = suc (below .0 .steps); reaches = below .0 .reaches }, right, small)
       where
         below : Known s g st (support s block)
         below = w .known (support s block) (w .rests)
@@ -222,8 +229,11 @@ module _ {s g : State} where
         right : Reflects (InPosition s g block) (eqb (getD new block 0) 2)
         right = rw (at-block, mark) (stands-reflects s g block (getD st (support s block) 0) (below .1))
 
+        small : getD new block 0 ≤ 2
+        small = omega (arith, at-block, mark, stands-small (support s block) (support g block) (getD st (support s block) 0))
+
     known-other : (b : ℕ) → b ≢ block → Marked st b → Known s g new b
-    known-other b d h = (w .known b h .0, rw (at-other b d) (w .known b h .1))
+    known-other b d h = (w .known b h .0, rw (at-other b d) (w .known b h .1), omega (arith, at-other b d, w .known b h .2))
 
     -- what comes next is not marked
     apart : x ≢ 0 → x ≢ block
@@ -302,7 +312,12 @@ module _ {s g : State} where
       room = w .room;
       reached = λ b j k. reflects-iff (λ y. w .known b y .0) (λ y. down-marked (y .steps) b k (y .reaches)) (reflects-not (eqb-reflects (getD st b 0) 0));
       right = λ b j k y. w .known b (down-marked (y .steps) b k (y .reaches)) .1;
+      small = λ b j k. low-mark b (same? (getD st b 0) 0);
     }
+      where
+        low-mark : (b : ℕ) → (getD st b 0 ≡ 0) ⊎ (getD st b 0 ≢ 0) → getD st b 0 ≤ 2
+        low-mark b (inl q) = omega arith
+        low-mark b (inr m) = w .known b m .2
 
 -- ---- what the calls ask
 

@@ -13,7 +13,10 @@ use mir.Syntax.{w64}
 use mir.Val.{boolByte, Fits}
 use Rattle.blocks.specs.State.{State, support}
 use Rattle.blocks.specs.Search.{pick, lowest, count}
-use Rattle.blocks.specs.Tests.{changed}
+use Rattle.blocks.specs.Tests.{misplacedᵇ, misplacedCount, changed}
+use Rattle.blocks.proofs.Reflect.{reflects-same}
+use Rattle.blocks.proofs.PositionLaws.{position-reflects}
+use Rattle.problem.specs.Known.{Countable}
 use Rattle.blocks.proofs.SearchLaws.{Passed, passed-more, scan-found, scan-none, count-next}
 
 -- ---- the first that was not reached
@@ -74,22 +77,34 @@ module _ {P : ℕ → Bool} {n c i : ℕ} where
 
 -- the misplaced
 
-pub record Misplacing (st : List ℕ) (n c i : ℕ) : Type 0 where
-  pub room : n < length st
-  pub counted : Counted (λ b. eqb (getD st b 0) 1) n c i
+pub record Misplacing (s g : State) (st : List ℕ) (n c i : ℕ) : Type 0 where
+  pub given : Countable s g st
+  pub all : n ≡ length s
+  pub counted : Counted (misplacedᵇ s g) n c i
 
-pub misplacing-begin : {st : List ℕ} {n : ℕ} → n < length st → Misplacing st n 0 0
-misplacing-begin {st} h = record { room = h; counted = counted-begin (λ b. eqb (getD st b 0) 1) }
+pub misplacing-begin : {s g : State} {st : List ℕ} {n : ℕ} → Countable s g st → n ≡ length s → Misplacing s g st n 0 0
+misplacing-begin {s} {g} v e = record { given = v; all = e; counted = counted-begin (misplacedᵇ s g) }
 
-module _ {st : List ℕ} {n c i : ℕ} (w : Misplacing st n c i) where
-  pub misplacing-next : i < n → Misplacing st n (c + boolByte (eqb (getD st (i + 1) 0) 1)) (i + 1)
-  misplacing-next h = record { room = w .room; counted = counted-next (eqb (getD st (i + 1) 0) 1) (w .counted) h (rw (add-one i)) }
+module _ {s g : State} {st : List ℕ} {n c i : ℕ} (w : Misplacing s g st n c i) where
+  misplaced-mark : i < n → not (eqb (getD st (i + 1) 0) 2) ≡ misplacedᵇ s g (suc i)
+  unfolding misplacedᵇ
+  misplaced-mark h = rw (add-one i) (ap not (reflects-same (λ p. p) (λ p. p) (v .standings .right (suc i) (omega arith) (omega (arith, w .all)) (v .proper .grounded (suc i))) (position-reflects s g (v .proper) (suc i))))
+    where
+      v : Countable s g st
+      v = w .given
 
-  pub misplacing-fits : i < n → length st < 2 ^ 64 → Fits w64 (c + boolByte (eqb (getD st (i + 1) 0) 1))
-  misplacing-fits h l = counted-fits (eqb (getD st (i + 1) 0) 1) (w .counted) h (omega arith)
+  pub misplacing-in : i < n → i + 1 < length st
+  misplacing-in h = omega (arith, w .all, w .given .standings .room)
 
-  pub misplacing-end : n ≤ i → c ≡ count (λ b. eqb (getD st b 0) 1) n
-  misplacing-end h = counted-end (w .counted) h
+  pub misplacing-next : i < n → Misplacing s g st n (c + boolByte (not (eqb (getD st (i + 1) 0) 2))) (i + 1)
+  misplacing-next h = record { given = w .given; all = w .all; counted = counted-next (not (eqb (getD st (i + 1) 0) 2)) (w .counted) h (misplaced-mark h) }
+
+  pub misplacing-fits : i < n → length s < 2 ^ 64 → Fits w64 (c + boolByte (not (eqb (getD st (i + 1) 0) 2)))
+  misplacing-fits h l = counted-fits (not (eqb (getD st (i + 1) 0) 2)) (w .counted) h (omega (arith, w .all))
+
+  pub misplacing-end : n ≤ i → c ≡ misplacedCount s g
+  unfolding misplacedCount
+  misplacing-end h = counted-end (w .counted) h ∙ ap (count (misplacedᵇ s g)) (w .all)
 
 -- the changed
 

@@ -57,6 +57,12 @@ pub record Standings (s g : State) (st : List ℕ) : Type 0 where
   pub room : length s < length st
   pub reached : (b : ℕ) → 1 ≤ b → b ≤ length s → Reflects (Grounded s b) (not (eqb (getD st b 0) 0))
   pub right : (b : ℕ) → 1 ≤ b → b ≤ length s → Grounded s b → Reflects (InPosition s g b) (eqb (getD st b 0) 2)
+  pub small : (b : ℕ) → 1 ≤ b → b ≤ length s → getD st b 0 ≤ 2
+
+-- A proper state of whose blocks it is known how they stand.
+pub record Countable (s g : State) (st : List ℕ) : Type 0 where
+  pub proper : Proper s
+  pub standings : Standings s g st
 
 -- A legal move in a state whose loads are known.
 pub record Movable (s : State) (l : List ℕ) (a x : ℕ) : Type 0 where

@@ -4,11 +4,11 @@ ghost use mathlib.Core.Bool.{not, _&&_};
 ghost use Prim.Native.Nat.{_+_, _-_, _≤_, _<_};
 ghost use lib.Dec.{eqb};
 ghost use lib.ListN.{length, getD};
-ghost use Rattle.blocks.specs.Search.{pick, lowest, count};
-ghost use Rattle.blocks.specs.Tests.{changed};
+ghost use Rattle.blocks.specs.Search.{pick, lowest};
+ghost use Rattle.blocks.specs.Tests.{misplacedCount, changed};
 ghost use Rattle.blocks.specs.Question.{badEntry};
 ghost use Rattle.blocks.specs.Answer.{firstDifference};
-ghost use Rattle.problem.specs.Known.{Zeros, Fillable, Filled, standsAs, Standable, Climbable, Standings, Movable, MovedTo};
+ghost use Rattle.problem.specs.Known.{Zeros, Fillable, Filled, standsAs, Standable, Climbable, Standings, Countable, Movable, MovedTo};
 ghost use Rattle.problem.specs.Checked.{askedOf, Checks, faultOf, Surveyed};
 
 // The answer to a check: accepted, or the number and place of the first "no".
@@ -198,15 +198,16 @@ fn first_unreached(stands: &[u16], n: usize) -> usize
     0
 }
 
-// How many blocks from 1 to n are misplaced.
-pub fn misplaced(stands: &[u16], n: usize) -> usize
-    requires { ⌜ n < length (now stands) ⌝ }
-    ensures { λ r. ⌜ r ≡ count (λ b. eqb (getD (now (stands .entry)) b 0) 1) n ⌝ }
+// How many blocks are misplaced. The goal is only spoken of.
+pub fn misplaced(s: &[u16], goal: &[u16], stands: &[u16]) -> usize
+    requires { ⌜ Countable (now s) (now goal) (now stands) ⌝ }
+    ensures { λ r. ⌜ r ≡ misplacedCount (now (s .entry)) (now (goal .entry)) ⌝ }
 {
+    let n = s.len();
     let mut c = 0;
     let mut i = 0;
     while i < n {
-        c += (stands[i + 1] == 1) as usize;
+        c += (stands[i + 1] != 2) as usize;
         i += 1;
     }
     c

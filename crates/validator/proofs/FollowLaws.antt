@@ -1,20 +1,20 @@
 -- Following a list of pairs: what the loop knows after k moves, and what each of its ways out answers. Assumes nothing.
 use Prim.Native.Nat.{ℕ, zero, suc, _+_, _*_, _/_, _%_, _≤_, _<_}
-use mathlib.Core.Path.{_≡_, refl, sym, ap, _∙_, subst}
+use mathlib.Core.Path.{_≡_, refl, sym, ap, _∙_}
 use mathlib.Core.Logic.{_≢_}
-use mathlib.Core.List.{List, [], _∷_}
+use mathlib.Core.List.{List, _∷_}
 use native.Mathlib.Omega.{arith}
 use native.Mathlib.Numerals.{add-one}
 use lib.ListN.{length, getD, drop, drop-of-length-le}
 use lib.Seq.{drop-cons}
 use Rattle.blocks.specs.State.{State, put}
-use Rattle.blocks.specs.Move.{_⟶_, Plan, Legal}
-use Rattle.blocks.specs.Question.{allYes, no′, firstNo}
-use Rattle.blocks.specs.Answer.{moves, moveQuestions, replayFrom, firstDifference, arrival, orBad, ReplayAnswer}
+use Rattle.blocks.specs.Move.{_⟶_, Legal}
+use Rattle.blocks.specs.Question.{firstNo}
+use Rattle.blocks.specs.Answer.{moves, moveQuestions, replayFrom, firstDifference, arrival, orBad}
 use Rattle.blocks.proofs.StateLaws.{length-put}
 use Rattle.blocks.proofs.FrameLaws.{proper-moved}
 use Rattle.blocks.proofs.ReplayLaws.{move-yes}
-use Rattle.problem.specs.Known.{Loads, Movable, MovedTo}
+use Rattle.problem.specs.Known.{Movable, MovedTo}
 use Rattle.validator.specs.Replayed.{faultOf, Follows, Current, Followable}
 use Rattle.validator.specs.declared.Replayed.the-variants.{Judged}
 

@@ -1,7 +1,7 @@
 -- Replay whole: what each way out of `validate` answers, and what the accepted problem lends to the steps between. Assumes nothing.
-use Prim.Native.Nat.{ℕ, _%_, _≤_, _<_}
-use mathlib.Core.Path.{_≡_, refl, sym, ap, ap₂, _∙_}
-use mathlib.Core.Logic.{_≢_, _↔_}
+use Prim.Native.Nat.{ℕ, _%_, _≤_}
+use mathlib.Core.Path.{_≡_, sym, ap, ap₂, _∙_}
+use mathlib.Core.Logic.{_≢_}
 use mathlib.Core.List.{List, _∷_, [], _++_}
 use native.Mathlib.Omega.{arith}
 use borrow.Author.Tests.{ne-eqb, eq-eqb}
@@ -11,12 +11,12 @@ use lib.Seq.{length-take-le, length-front}
 use Rattle.blocks.specs.State.{State}
 use Rattle.blocks.specs.Position.{Accepted}
 use Rattle.blocks.specs.Move.{Solves}
-use Rattle.blocks.specs.Question.{Asked, allYes, no′, asks, firstNo, problemQuestions, badEntry, badSupport}
+use Rattle.blocks.specs.Question.{allYes, no′, asks, firstNo, problemQuestions}
 use Rattle.blocks.specs.Answer.{moves, replayed, replayFrom, replayQuestions, replayAnswer}
 use Rattle.blocks.proofs.QuestionLaws.{questions-accept, proper-yes}
 use Rattle.blocks.proofs.AnswerLaws.{first-no-append, first-no-front, replay-answered}
 use Rattle.blocks.proofs.AnsweredLaws.{arriving}
-use Rattle.problem.specs.Known.{Loads, Fillable, Filled}
+use Rattle.problem.specs.Known.{Fillable, Filled}
 use Rattle.problem.specs.Checked as problem
 use Rattle.problem.specs.declared.Checked as case
 use Rattle.validator.specs.Replayed.{replayOf, askedOf, Replays, Follows, Judgeable, JudgeableIn, Followable}

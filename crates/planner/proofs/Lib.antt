@@ -1,0 +1,13 @@
+pub mod ChangeLaws
+pub mod RunningLaws
+pub mod ChoiceLaws
+pub mod TestLaws
+pub mod RefreshLaws
+pub mod SetsLaws
+pub mod BeginLaws
+pub mod SpanLaws
+pub mod WalkLaws
+pub mod TurnLaws
+pub mod PickLaws
+pub mod StepLaws
+pub mod LoopRunLaws

@@ -1,0 +1,4 @@
+pub mod Kept
+pub mod Runs
+pub mod Visits
+pub mod Begins
