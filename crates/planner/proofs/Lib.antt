@@ -11,3 +11,5 @@ pub mod TurnLaws
 pub mod PickLaws
 pub mod StepLaws
 pub mod LoopRunLaws
+pub mod SolveLaws
+pub mod PlanLaws

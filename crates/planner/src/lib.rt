@@ -8,12 +8,229 @@ ghost use Rattle.blocks.specs.Tests.{readyᵇ, perchedᵇ, waitingᵇ};
 ghost use Rattle.planner.specs.Kept.{Sets, Testable, Refreshable, Refreshed, Moving, Settable};
 ghost use Rattle.planner.specs.Runs.{part, Walkable, Walked, Turnable, Turned, Pickable, Picks, Steppable, Stepped, Finished, Beginnable, Begun};
 ghost use Rattle.planner.specs.Begins.{Listable, Listed, Towerable, Towered};
+ghost use Rattle.planner.specs.Answers.{Plans, Roomy, Solvable, Solved};
 ghost use Rattle.planner.specs.Visits.{FirstAt, LowestIn};
+use problem::Checked;
 
 // A block and where it goes; block 0 where there is nothing to move.
 pub struct Picked {
     pub block: usize,
     pub dest: usize,
+}
+
+// The answer to planning: the number and place of the first "no", or the count of moves and the count of blocks whose support the goal changes.
+pub enum Planned {
+    Refused { number: u16, place: u16 },
+    Made { count: usize, changed: usize },
+}
+
+// Questions 1 to 10, and then the plan of the method, written from the front of the lent space, for any numbers and lists.
+pub fn plan(method: u16, initial: &[u16], goal: &[u16], out: &mut [u16]) -> Planned
+    ensures { λ r. ⌜ Plans method (now (initial .entry)) (now (goal .entry)) (now (out .entry)) r (now (out .exit)) ⌝ }
+{
+    if method < 1 {
+        return Planned::Refused {
+            number: 1,
+            place: 0,
+        };
+    }
+    if 3 < method {
+        return Planned::Refused {
+            number: 1,
+            place: 0,
+        };
+    }
+    let checked = problem::check(initial, goal);
+    if let Checked::Refused { number, place } = checked {
+        return Planned::Refused { number, place };
+    }
+    if out.len() < 4 * initial.len() {
+        return Planned::Refused {
+            number: 10,
+            place: 0,
+        };
+    }
+    let mut cur = [0u16; 4000];
+    let mut load = [0u16; 4001];
+    let mut wanted = [0u16; 4001];
+    let mut stands = [0u16; 4001];
+    let mut ready = [0u64; 65];
+    let mut perched = [0u64; 65];
+    let mut waiting = [0u64; 65];
+    let mut bottoms = [0u16; 4001];
+    let mut tops = [0u16; 4001];
+    let mut roots = [0u16; 4001];
+    let mut highs = [0u16; 4001];
+    let mut seen = [0u16; 4000];
+    let mut marks = [0u16; 4001];
+    let count = solve(
+        problem::wide(method),
+        initial,
+        goal,
+        &mut cur,
+        &mut load,
+        &mut wanted,
+        &mut stands,
+        &mut ready,
+        &mut perched,
+        &mut waiting,
+        &mut bottoms,
+        &mut tops,
+        &mut roots,
+        &mut highs,
+        &mut seen,
+        &mut marks,
+        out,
+    );
+    Planned::Made {
+        count,
+        changed: problem::changed(initial, goal),
+    }
+}
+
+// The plan of a method for an accepted problem, over lent lists that are long enough for any problem; answers the count of moves.
+fn solve(
+    method: usize,
+    initial: &[u16],
+    goal: &[u16],
+    cur: &mut [u16],
+    load: &mut [u16],
+    wanted: &mut [u16],
+    stands: &mut [u16],
+    ready: &mut [u64],
+    perched: &mut [u64],
+    waiting: &mut [u64],
+    bottoms: &mut [u16],
+    tops: &mut [u16],
+    roots: &mut [u16],
+    highs: &mut [u16],
+    seen: &mut [u16],
+    marks: &mut [u16],
+    out: &mut [u16],
+) -> usize
+    requires { ⌜ Roomy method (now initial) (now goal) (now cur) (now load) (now wanted) (now stands) (now ready) (now perched) (now waiting) (now bottoms) (now tops) (now roots) (now highs) (now seen) (now marks) (now out) ⌝ }
+    ensures { λ r. ⌜ Solved method (now (initial .entry)) (now (goal .entry)) (now (out .entry)) r (now (out .exit)) ⌝ }
+{
+    let n = initial.len();
+    solve_in(
+        method,
+        initial,
+        goal,
+        &mut cur[..n],
+        load,
+        wanted,
+        stands,
+        ready,
+        perched,
+        waiting,
+        bottoms,
+        tops,
+        roots,
+        highs,
+        seen,
+        marks,
+        out,
+    )
+}
+
+// The same, with a list just long enough for the state.
+fn solve_in(
+    method: usize,
+    initial: &[u16],
+    goal: &[u16],
+    cur: &mut [u16],
+    load: &mut [u16],
+    wanted: &mut [u16],
+    stands: &mut [u16],
+    ready: &mut [u64],
+    perched: &mut [u64],
+    waiting: &mut [u64],
+    bottoms: &mut [u16],
+    tops: &mut [u16],
+    roots: &mut [u16],
+    highs: &mut [u16],
+    seen: &mut [u16],
+    marks: &mut [u16],
+    out: &mut [u16],
+) -> usize
+    requires { ⌜ Solvable method (now initial) (now goal) (now cur) (now load) (now wanted) (now stands) (now ready) (now perched) (now waiting) (now bottoms) (now tops) (now roots) (now highs) (now seen) (now marks) (now out) ⌝ }
+    ensures { λ r. ⌜ Solved method (now (initial .entry)) (now (goal .entry)) (now (out .entry)) r (now (out .exit)) ⌝ }
+{
+    problem::zero(marks);
+    begin(
+        initial,
+        goal,
+        cur,
+        load,
+        wanted,
+        stands,
+        ready,
+        perched,
+        waiting,
+        bottoms,
+        tops,
+        roots,
+        highs,
+    );
+    if method == 1 {
+        let k = run(
+            0,
+            cur,
+            goal,
+            load,
+            wanted,
+            stands,
+            ready,
+            perched,
+            waiting,
+            bottoms,
+            tops,
+            roots,
+            highs,
+            seen,
+            marks,
+            out,
+            0,
+        );
+        return run(
+            1,
+            cur,
+            goal,
+            load,
+            wanted,
+            stands,
+            ready,
+            perched,
+            waiting,
+            bottoms,
+            tops,
+            roots,
+            highs,
+            seen,
+            marks,
+            out,
+            k,
+        );
+    }
+    run(
+        method,
+        cur,
+        goal,
+        load,
+        wanted,
+        stands,
+        ready,
+        perched,
+        waiting,
+        bottoms,
+        tops,
+        roots,
+        highs,
+        seen,
+        marks,
+        out,
+        0,
+    )
 }
 
 // Makes the moves of a run, one after the other, and writes them from the k-th pair on; answers the count of pairs then written.

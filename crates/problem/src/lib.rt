@@ -255,7 +255,7 @@ pub fn first_difference(s: &[u16], goal: &[u16]) -> usize
     0
 }
 
-fn zero(l: &mut [u16])
+pub fn zero(l: &mut [u16])
     ensures { λ r. ⌜ Zeros (now (l .exit)) ⌝ }
 {
     let mut i = 0;

@@ -1,0 +1,141 @@
+-- `plan` meets its contract: one law for each way out. Assumes nothing.
+use borrow.Author.Needs.{needs}
+use Rattle.planner.proofs.PlanLaws.{low-way, high-way, refused-way, room-way, roomy, same-size, made-way}
+use Rattle.planner.proofs.plan.Statement.{statement}
+use Rattle.planner.proofs.plan.Tie as tie
+
+returns : tie.Need-returns
+returns c = search (needs, low-way)
+
+returns-2 : tie.Need-returns-2
+returns-2 c = search (needs, high-way)
+
+check-requires : tie.Need-check-requires
+check-requires c κs = search needs
+
+enum-known-checked : tie.Need-enum-known-checked
+enum-known-checked c = search needs
+
+returns-3 : tie.Need-returns-3
+returns-3 c = search (needs, refused-way)
+
+enum-told : tie.Need-enum-told
+enum-told c = search needs
+
+mul-if3 : tie.Need-mul-if3
+mul-if3 c = search needs
+
+returns-4 : tie.Need-returns-4
+returns-4 c = search (needs, room-way)
+
+wide-requires : tie.Need-wide-requires
+wide-requires c κs = search needs
+
+slice-aggregate-solve : tie.Need-slice-aggregate-solve
+slice-aggregate-solve c = search needs
+
+slice-aggregate-solve-2 : tie.Need-slice-aggregate-solve-2
+slice-aggregate-solve-2 c = search needs
+
+slice-aggregate-solve-3 : tie.Need-slice-aggregate-solve-3
+slice-aggregate-solve-3 c = search needs
+
+slice-aggregate-solve-4 : tie.Need-slice-aggregate-solve-4
+slice-aggregate-solve-4 c = search needs
+
+slice-aggregate-solve-5 : tie.Need-slice-aggregate-solve-5
+slice-aggregate-solve-5 c = search needs
+
+slice-aggregate-solve-6 : tie.Need-slice-aggregate-solve-6
+slice-aggregate-solve-6 c = search needs
+
+slice-aggregate-solve-7 : tie.Need-slice-aggregate-solve-7
+slice-aggregate-solve-7 c = search needs
+
+slice-aggregate-solve-8 : tie.Need-slice-aggregate-solve-8
+slice-aggregate-solve-8 c = search needs
+
+slice-aggregate-solve-9 : tie.Need-slice-aggregate-solve-9
+slice-aggregate-solve-9 c = search needs
+
+slice-aggregate-solve-10 : tie.Need-slice-aggregate-solve-10
+slice-aggregate-solve-10 c = search needs
+
+slice-aggregate-solve-11 : tie.Need-slice-aggregate-solve-11
+slice-aggregate-solve-11 c = search needs
+
+slice-aggregate-solve-12 : tie.Need-slice-aggregate-solve-12
+slice-aggregate-solve-12 c = search needs
+
+slice-aggregate-solve-13 : tie.Need-slice-aggregate-solve-13
+slice-aggregate-solve-13 c = search needs
+
+solve-requires : tie.Need-solve-requires
+solve-requires c κs =
+    let x = c .before .before .before .before .before .before .before .before .before .before .before .before .before .before in
+    let q = x .before in
+    let k = q .before .before .before in
+    roomy _ (k .before .before .if1 .left) (k .before .if2 .left) (k .check .ensures) (q .before .enum-told .given .1) (q .if3 .left) (x .wide .ensures)
+    (search needs)
+    (search needs)
+    (search needs)
+    (search needs)
+    (search needs)
+    (search needs)
+    (search needs)
+    (search needs)
+    (search needs)
+    (search needs)
+    (search needs)
+    (search needs)
+    (search needs)
+
+changed-requires : tie.Need-changed-requires
+changed-requires c κs =
+    let q = c .before .before .before .before .before .before .before .before .before .before .before .before .before .before .before .before .before .before
+    .before .before .before .before .before .before .before .before .before .before .before .before .before in
+    let k = q .before .before .before in
+    same-size (k .check .ensures) (q .before .enum-told .given .1)
+
+same-length : tie.Need-same-length
+same-length c = search needs
+
+returns-5 : tie.Need-returns-5
+returns-5 c =
+    let x = c .before .before .before .before .before .before .before .before .before .before .before .before .before .before .before .before .before .before
+    .before .before .before .before .before .before .before .before .before .before .before .before .before in
+    let q = x .before in
+    let k = q .before .before .before in
+    let a = c .before .before .before .before .before .before .before .before .before .before .before .before .before .before .before .before in
+    made-way _ (k .before .before .if1 .left) (k .before .if2 .left) (k .check .ensures) (q .before .enum-told .given .1) (q .if3 .left) (x .wide .ensures) (a .solve .ensures) (c .changed .ensures)
+
+pub plan-spec : {M : Type 1} → statement M
+plan-spec =
+    tie.close
+    (tie.spec
+    returns
+    returns-2
+    check-requires
+    enum-known-checked
+    returns-3
+    enum-told
+    mul-if3
+    returns-4
+    wide-requires
+    slice-aggregate-solve
+    slice-aggregate-solve-2
+    slice-aggregate-solve-3
+    slice-aggregate-solve-4
+    slice-aggregate-solve-5
+    slice-aggregate-solve-6
+    slice-aggregate-solve-7
+    slice-aggregate-solve-8
+    slice-aggregate-solve-9
+    slice-aggregate-solve-10
+    slice-aggregate-solve-11
+    slice-aggregate-solve-12
+    slice-aggregate-solve-13
+    solve-requires
+    changed-requires
+    same-length
+    returns-5)
