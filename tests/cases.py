@@ -1,7 +1,9 @@
 """Makes the cases of crates/library_cases from the reading of document 01 in reading.py.
 
 Without an argument it writes the program's stdin and stdout. With --check it makes them in memory
-and compares them with the stored files. The answers come from the reading, never from the program.
+and compares them with the stored files. The answers come from the reading, never from the program;
+those of some full yards in closed form, which the reading confirms for few slabs. The reading is
+held to what document 01 states, and on small sheets to demand 3 by a breadth-first search.
 """
 
 import itertools
@@ -17,17 +19,22 @@ from reading import Pair, Yard
 HERE = Path(__file__).resolve().parent.parent / "crates" / "library_cases"
 SEED = 4001
 RANDOM_SHEETS = 300
-CHECK, REPLAY = 1, 2
+RANDOM_PLANS = 600
+RANDOM_RINGS = 100
+SEARCHED = 6
+CHECK, REPLAY, PLAN, DEADLOCK = 1, 2, 3, 4
+METHODS = (1, 2, 3)
 TOP = 65535
+SHOWN = 16
 
 
 class Case(NamedTuple):
-    """One frame: an operation with its three lists."""
+    """One frame: an operation with its three lists; the third has the lifts, or a method and a space's length."""
 
     operation: int
     now: list[int]
     goal: list[int]
-    lifts: list[int]
+    third: list[int]
 
 
 def checking(now: Yard, goal: Yard) -> Case:
@@ -40,25 +47,72 @@ def replaying(now: Yard, goal: Yard, lifts: Sequence[int] = ()) -> Case:
     return Case(REPLAY, list(now), list(goal), list(lifts))
 
 
+def flat(pairs: Sequence[Pair]) -> list[int]:
+    """The numbers of some pairs."""
+    return [number for pair in pairs for number in pair]
+
+
 def following(now: Yard, goal: Yard, pairs: Sequence[Pair]) -> Case:
     """A case of replay, its list given as pairs."""
-    return replaying(now, goal, [number for pair in pairs for number in pair])
+    return replaying(now, goal, flat(pairs))
+
+
+def planning(method: int, now: Yard, goal: Yard, length: int | None = None) -> Case:
+    """A case of planning; without a length the lent space is just large enough."""
+    return Case(PLAN, list(now), list(goal), [method, 4 * len(now) if length is None else length])
+
+
+def testing(now: Yard, goal: Yard, length: int | None = None) -> Case:
+    """A case of the deadlock test; without a length the lent space is just large enough."""
+    return Case(DEADLOCK, list(now), list(goal), [0, 2 * len(now) if length is None else length])
+
+
+def by_all(now: Yard, goal: Yard) -> Iterator[Case]:
+    """A sheet by each method and by the deadlock test."""
+    for method in METHODS:
+        yield planning(method, now, goal)
+    yield testing(now, goal)
 
 
 def frame(case: Case) -> bytes:
     """The bytes of a case: operation, three lengths, three lists, 16 bits each, high byte first."""
-    lists = (case.now, case.goal, case.lifts)
+    lists = (case.now, case.goal, case.third)
     numbers = [case.operation, *map(len, lists), *itertools.chain(*lists)]
     return b"".join(number.to_bytes(2, "big") for number in numbers)
+
+
+def as_line(*numbers: int) -> str:
+    """An answer as the program writes it."""
+    return " ".join(map(str, numbers)) + "\n"
+
+
+def checksum(numbers: Sequence[int]) -> int:
+    """The polynomial with these coefficients at 65599, modulo the largest prime below 2^32."""
+    total = 0
+    for number in numbers:
+        total = (total * 65599 + number) % 4294967291
+    return total
+
+
+def space_after(length: int, pairs: Sequence[Pair]) -> list[int]:
+    """What the program tells of a space with some pairs written: its checksum and the first pairs."""
+    written = flat(pairs)
+    space = [*written, *range(TOP - len(written), TOP - length, -1)]
+    return [checksum(space), *written[: 2 * SHOWN]]
 
 
 def answer(case: Case) -> str:
     """What the reading answers, as the program writes it."""
     if case.operation == CHECK:
-        numbers: tuple[int, ...] = reading.check(case.now, case.goal)
+        return as_line(*reading.check(case.now, case.goal))
+    if case.operation == REPLAY:
+        return as_line(*reading.replay(case.now, case.goal, case.third))
+    method, length = case.third
+    if case.operation == PLAN:
+        *numbers, pairs = reading.plan(method, case.now, case.goal, length)
     else:
-        numbers = reading.replay(case.now, case.goal, case.lifts)
-    return " ".join(map(str, numbers)) + "\n"
+        *numbers, pairs = reading.deadlock(case.now, case.goal, length)
+    return as_line(*numbers, *space_after(length, pairs))
 
 
 # The sheets of document 01 with their ends: now, goal, the list of a method, and the deadlock pairs where it states them.
@@ -79,6 +133,13 @@ COUNTS: list[tuple[list[int], list[int], int | None, int | None]] = [
     ([2, 0, 4, 0], [4, 0, 2, 0], 4, None),
     ([2, 3, 0, 5, 0], [5, 0, 0, 3, 2], 6, None),
     ([2, 3, 0], [2, 0, 0], None, 1),
+]
+
+# Sheets that tell readings of the loop apart: a walk that starts off the loop, and methods 2 and 3 with different lists.
+TRIALS: list[tuple[list[int], list[int]]] = [
+    ([0, 6, 7, 8, 9, 0, 0, 0, 0], [8, 7, 6, 9, 1, 0, 0, 0, 0]),
+    ([0, 0, 2, 5, 1], [0, 0, 1, 2, 4]),
+    ([3, 0, 4, 0, 2, 1], [2, 0, 1, 0, 4, 5]),
 ]
 
 # The other answers that document 01 states.
@@ -102,6 +163,8 @@ def misread() -> list[str]:
         number, place, count, _, written = reading.plan(method, now, goal, 4 * n)
         if (number, place, count, written) != (0, 0, len(pairs), pairs):
             wrong.append(f"method {method} on {now} / {goal}")
+        if n > 0 and reading.plan(method, now, goal, 4 * n - 1) != (10, 0, 0, 0, []):
+            wrong.append(f"too little space for {now} / {goal}")
         if loop is not None and reading.deadlock(now, goal, 2 * n) != (0, 0, len(loop), loop):
             wrong.append(f"deadlock of {now} / {goal}")
     for now, goal, lifts, differing in COUNTS:
@@ -109,6 +172,26 @@ def misread() -> list[str]:
         if lifts not in (None, count) or differing not in (None, changed):
             wrong.append(f"counts of {now} / {goal}")
     return wrong
+
+
+def broken(now: Yard, goal: Yard) -> list[str]:
+    """Where the reading breaks demands 2 and 3 on a small accepted sheet, by search; empty when it keeps them."""
+    n, best, stuck = len(now), reading.shortest(now, goal), reading.deadlocked(now, goal)
+    wrong: list[str] = []
+    for method in METHODS:
+        number, _, count, _, pairs = reading.plan(method, now, goal, 4 * n)
+        if number != 0 or count != len(pairs) or reading.replay(now, goal, flat(pairs)) != (0, 0, 0):
+            wrong.append(f"method {method} does not arrive")
+        if count > 2 * best or (method != 1 and not stuck and count > best):
+            wrong.append(f"method {method} takes {count} lifts where {best} are enough")
+    if stuck and best <= len(reading.misplaced(now, goal)):
+        wrong.append("a deadlock costs no lift")
+    number, _, count, pairs = reading.deadlock(now, goal, 2 * n)
+    if number != 0 or count != len(pairs) or reading.shows_deadlock(now, goal, pairs) != stuck:
+        wrong.append("the deadlock test differs from the definition")
+    if pairs and pairs[0] != min(pairs):
+        wrong.append("the loop is not written from its lowest number")
+    return [f"{now} / {goal}: {sentence}" for sentence in wrong]
 
 
 def tower(n: int) -> list[int]:
@@ -180,12 +263,15 @@ def order() -> Iterator[Case]:
         yield replaying(goal, now, [1])
 
 
+def arrangements(n: int) -> list[tuple[int, ...]]:
+    """Every sound arrangement of n slabs."""
+    return [yard for yard in itertools.product(range(n + 1), repeat=n) if reading.check(yard, yard) == (0, 0)]
+
+
 def small_lifts() -> Iterator[Case]:
     """Every pair from every yard of at most three slabs, up to n + 1 for at most two; a lift arrives."""
     for n, numbers in ((1, range(3)), (2, range(4)), (3, range(4))):
-        for now in itertools.product(range(n + 1), repeat=n):
-            if reading.check(now, now) != (0, 0):
-                continue
+        for now in arrangements(n):
             for slab, destination in itertools.product(numbers, repeat=2):
                 legal = reading.lift_fault(now, slab, destination) == 0
                 goal = reading.lifted(now, slab, destination) if legal else now
@@ -308,8 +394,208 @@ def random_case(rng: random.Random, kind: int) -> Case:
     return checking(now, goal) if rng.randint(0, 1) == 0 else following(now, goal, pairs)
 
 
+def stated_plans() -> Iterator[Case]:
+    """Every sheet of document 01 by every method and the deadlock test, and the sheets of the loop."""
+    for now, goal in dict.fromkeys((tuple(now), tuple(goal)) for now, goal, _, _, _ in SHEETS):
+        yield from by_all(now, goal)
+    for now in ([2, 1, 5], [0, 1, 1], [1]):
+        yield from by_all(now, [0] * len(now))
+        yield from by_all([0] * len(now), now)
+    for now, goal in TRIALS:
+        yield from by_all(now, goal)
+        yield from by_all(goal, now)
+
+
+def bad_methods() -> Iterator[Case]:
+    """Question 1 before all others: numbers that are no method on sound and bad sheets, with and without space."""
+    for method in (0, 4, 5, 256, 257, TOP):
+        for now, goal in (([], []), ([2, 0], [0, 1]), ([2, 0], [0]), ([3, 3], [0, 0]), ([0, 0], [2, 1])):
+            yield planning(method, now, goal)
+            yield planning(method, now, goal, 0)
+    yield planning(0, [0] * 4001, [TOP], 16004)
+    yield planning(4, [0] * 4000, [0] * 4000)
+
+
+def spaces() -> Iterator[Case]:
+    """Question 10: spaces about 4 × n and 2 × n, with and without a deadlock, up to a full yard."""
+    for now, goal, _, _, _ in (SHEETS[k] for k in (0, 1, 2, 5, 6)):
+        n = len(now)
+        edges = {0, 1, n, *(k * n + d for k in (2, 4) for d in (-1, 0, 1, 99))}
+        for length in sorted(edges - {-1}):
+            for method in METHODS:
+                yield planning(method, now, goal, length)
+            yield testing(now, goal, length)
+    yield planning(1, [0], [0], 3)
+    yield planning(1, [0], [0], 4)
+    yield testing([0], [0], 1)
+    yield testing([0], [0], 2)
+    for length in (15999, 16000, 16384):
+        yield planning(2, [0] * 4000, [0] * 3999 + [1], length)
+    for length in (7999, 8000):
+        yield testing([0] * 4000, [0] * 3999 + [1], length)
+
+
+def plan_refusals() -> Iterator[Case]:
+    """Questions 2 to 9 at their first and last places, alone and before question 10, by all."""
+    for now, goal in (([], [0]), ([0], []), ([0, 0], [0]), ([0], [0, 0]), ([9, 9], [9])):
+        for length in (0, 8):
+            for method in METHODS:
+                yield planning(method, now, goal, length)
+            yield testing(now, goal, length)
+    for n, question, first in itertools.product((1, 2, 5), (4, 5, 6), (True, False)):
+        if n == 1 and question == 5:
+            continue
+        bad, other = faulty(question, n, first), faulty(4, n, True)
+        for now, goal in ((bad, tower(n)), (bad, other), (tower(n), bad)):
+            yield from by_all(now, goal)
+            yield planning(2, now, goal, 4 * n - 1)
+            yield testing(now, goal, 2 * n - 1)
+    for now, goal in itertools.product(
+        ([0, 0, 0, 0, 0], [2, 2, 0, 0, 6], [0, 4, 0, 4, 5], [0, 0, 4, 3, 5]),
+        ([0, 0, 0, 0, 6], [3, 3, 5, 0, 5], [2, 1, 0, 0, 5]),
+    ):
+        yield from by_all(now, goal)
+        yield planning(3, now, goal, 0)
+        yield testing(now, goal, 0)
+    yield planning(2, [0] * 4001, [TOP], 0)
+    yield planning(2, [0] * 4001, [0] * 4001, 16004)
+    yield testing([0] * 4001, [0] * 4001, 8002)
+    yield planning(3, [0] * 4000, [0] * 4001)
+    yield planning(1, [0] * 4000, faulty(6, 4000, True))
+    yield testing([0] * 4000, faulty(5, 4000, False), 0)
+
+
+def small_problems() -> Iterator[tuple[Yard, Yard]]:
+    """Every accepted sheet of at most three slabs."""
+    for n in range(4):
+        yield from itertools.product(arrangements(n), repeat=2)
+
+
+class Known(NamedTuple):
+    """A sheet with its lists in closed form: method 1's, that of methods 2 and 3, and the deadlock pairs."""
+
+    now: list[int]
+    goal: list[int]
+    first: list[Pair]
+    others: list[Pair]
+    loop: list[Pair]
+
+
+def turned(n: int) -> Known:
+    """One pile to be turned over: method 1 puts all but the foot down and builds; the others build at once."""
+    built = [(slab, slab - 1) for slab in range(2, n + 1)]
+    down = [(slab, 0) for slab in range(1, n)]
+    return Known([*range(2, n + 1), 0], tower(n), down + built, down[:1] + built, [])
+
+
+def exchanged(n: int) -> Known:
+    """Two piles of two that exchange their upper slabs, n / 4 times: as many deadlocks of two slabs."""
+    feet = range(0, n, 4)
+    now = [s for k in feet for s in (k + 2, 0, k + 4, 0)]
+    goal = [s for k in feet for s in (k + 4, 0, k + 2, 0)]
+    down = [(k + s, 0) for k in feet for s in (1, 3)]
+    up = [pair for k in feet for pair in ((k + 1, k + 4), (k + 3, k + 2))]
+    others = [pair for k in feet for pair in ((k + 1, 0), (k + 3, k + 2), (k + 1, k + 4))]
+    return Known(now, goal, down + up, others, [(1, 4), (3, 2)])
+
+
+def ring(n: int) -> Known:
+    """n / 2 piles of two, each upper slab bound for the next pile; with n odd slab 1, bound for 2, starts the walk."""
+    beside, half = n % 2, n // 2
+    feet = [0] * half
+    first, foot = beside + 1, beside + half + 1
+    now = [*[0] * beside, *range(foot, n + 1), *feet]
+    goal = [*[2] * beside, *range(foot + 1, n + 1), foot, *feet]
+    up = [(slab, goal[slab - 1]) for slab in range(first, foot)]
+    down = [(slab, 0) for slab in range(first, foot)]
+    last = [(1, 2)] * beside
+    return Known(now, goal, [*down, up[0], *last, *up[1:]], [down[0], *reversed(up), *last], up)
+
+
+# The closed forms, each with the numbers of slabs at which the reading confirms it, and those of its full yards.
+KNOWN = ((turned, range(2, 17), (4000,)), (exchanged, range(4, 17, 4), (4000,)), (ring, range(4, 17), (4000, 3999)))
+
+
+def regrouped(rng: random.Random, n: int, feet: int) -> tuple[list[int], list[int]]:
+    """A sheet whose other slabs are stacked at random on the same feet, now and in the goal: it has longer loops."""
+    slabs = rng.sample(range(1, n + 1), n)
+    yards = [0] * n, [0] * n
+    for yard in yards:
+        tops = slabs[:feet]
+        for slab in rng.sample(slabs[feet:], n - feet):
+            at = rng.randrange(feet)
+            yard[slab - 1], tops[at] = tops[at], slab
+    return yards
+
+
+def random_problem(rng: random.Random, n: int, kind: int) -> tuple[list[int], list[int]]:
+    """A random sheet of one of three kinds: any piles, and the slabs regrouped on few or many feet."""
+    if kind == 0:
+        return arrangement(rng, n), arrangement(rng, n)
+    return regrouped(rng, n, (n + 1) // (4 - kind))
+
+
+def renumbered(rng: random.Random, known: Known) -> tuple[list[int], list[int]]:
+    """A sheet with other numbers for its slabs."""
+    n = len(known.now)
+    names = [0, *rng.sample(range(1, n + 1), n)]
+    yards = [0] * n, [0] * n
+    for yard, old in zip(yards, (known.now, known.goal)):
+        for slab in range(1, n + 1):
+            yard[names[slab] - 1] = names[old[slab - 1]]
+    return yards
+
+
+def random_problems() -> Iterator[tuple[Yard, Yard]]:
+    """Random sheets of four to eight slabs, and small rings whose loops may be entered at any slab."""
+    rng = random.Random(SEED)
+    for number in range(RANDOM_PLANS):
+        yield random_problem(rng, 4 + number // 3 % 5, number % 3)
+    for number in range(RANDOM_RINGS):
+        yield renumbered(rng, ring(5 + number % 2 * 2))
+
+
+def larger_plans() -> Iterator[Case]:
+    """Random sheets of 100 to 400 slabs, and a full yard a few lifts from its goal."""
+    rng = random.Random(SEED)
+    for n, kind in ((100, 0), (100, 1), (100, 2), (150, 0), (200, 2), (250, 0), (300, 1), (400, 2)):
+        yield from by_all(*random_problem(rng, n, kind))
+    goal = arrangement(rng, 4000)
+    now, _ = walk(rng, goal, 12)
+    yield from by_all(now, goal)
+
+
+def known_answers(known: Known) -> Iterator[tuple[Case, str]]:
+    """The cases of a sheet in closed form with their answers; all its spaces are just large enough."""
+    n, differing = len(known.now), reading.changed(known.now, known.goal)
+    for method in METHODS:
+        pairs = known.first if method == 1 else known.others
+        told = as_line(0, 0, len(pairs), differing, *space_after(4 * n, pairs))
+        yield planning(method, known.now, known.goal), told
+    told = as_line(0, 0, len(known.loop), *space_after(2 * n, known.loop))
+    yield testing(known.now, known.goal), told
+
+
+def misknown() -> list[str]:
+    """Where the reading differs from a closed form for few slabs; empty when it agrees."""
+    return [
+        f"{make.__name__}: {case}"
+        for make, few, _ in KNOWN
+        for n in few
+        for case, told in known_answers(make(n))
+        if answer(case) != told
+    ]
+
+
+def full_yards() -> Iterator[tuple[Case, str]]:
+    """The cases of full yards whose answers are known in closed form."""
+    for make, _, many in KNOWN:
+        for n in many:
+            yield from known_answers(make(n))
+
+
 def all_cases() -> list[Case]:
-    """All cases in the order of the stored files."""
+    """All cases that the reading answers, in the order of the stored files."""
     rng = random.Random(SEED)
     return [
         *(case for case, _ in STATED),
@@ -324,7 +610,20 @@ def all_cases() -> list[Case]:
         *long_lists(),
         *full_yard(rng),
         *(random_case(rng, number % 6) for number in range(RANDOM_SHEETS)),
+        *stated_plans(),
+        *bad_methods(),
+        *spaces(),
+        *plan_refusals(),
+        *(case for sheet in small_problems() for case in by_all(*sheet)),
+        *(case for sheet in random_problems() for case in by_all(*sheet)),
+        *larger_plans(),
     ]
+
+
+def unkept() -> tuple[int, list[str]]:
+    """How many small sheets were searched, and where the reading breaks a demand on one of them."""
+    sheets = [sheet for sheet in [*small_problems(), *random_problems()] if len(sheet[0]) <= SEARCHED]
+    return len(sheets), [sentence for sheet in sheets for sentence in broken(*sheet)]
 
 
 def compare(frames: list[bytes], lines: list[str]) -> int:
@@ -346,19 +645,23 @@ def compare(frames: list[bytes], lines: list[str]) -> int:
 def main() -> int:
     """Writes the stored files, or with --check compares them."""
     print(f"seed {SEED}")
-    wrong = misread()
+    searched, breaches = unkept()
+    print(f"{searched} sheets searched")
+    wrong = [f"the reading differs from document 01: {sentence}" for sentence in misread()]
+    wrong += [f"the reading breaks a demand: {sentence}" for sentence in breaches]
+    wrong += [f"the reading differs from a closed form: {sentence}" for sentence in misknown()]
     for sentence in wrong:
-        print(f"the reading differs from document 01: {sentence}")
-    cases = all_cases()
-    frames = [frame(case) for case in cases]
-    lines = [answer(case) for case in cases]
+        print(sentence)
+    answers = [*((case, answer(case)) for case in all_cases()), *full_yards()]
+    frames = [frame(case) for case, _ in answers]
+    lines = [told for _, told in answers]
     if sys.argv[1:] == ["--check"]:
         failed = compare(frames, lines)
-        print(f"{len(cases) - min(failed, len(cases))} passed, {failed + len(wrong)} failed")
+        print(f"{len(lines) - min(failed, len(lines))} passed, {failed + len(wrong)} failed")
         return 1 if failed or wrong else 0
     (HERE / "stdin").write_bytes(b"".join(frames))
     (HERE / "stdout").write_text("".join(lines))
-    print(f"{len(cases)} cases written")
+    print(f"{len(lines)} cases written")
     return 1 if wrong else 0
 
 

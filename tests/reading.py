@@ -5,6 +5,7 @@ Each function follows its sentence and none is meant to be fast. `shortest` and 
 decide by search what the document only defines.
 """
 
+import functools
 from collections import deque
 from collections.abc import Sequence
 
@@ -245,6 +246,12 @@ def all_lifts(yard: Yard) -> list[Pair]:
     return [(s, d) for s in slabs(yard) for d in range(len(yard) + 1) if is_lift(yard, s, d)]
 
 
+@functools.cache
+def yards_after(yard: tuple[int, ...]) -> list[tuple[int, ...]]:
+    """The yards that one lift leads to."""
+    return [tuple(lifted(yard, slab, destination)) for slab, destination in all_lifts(yard)]
+
+
 def shortest(now: Yard, goal: Yard) -> int:
     """The fewest lifts of an accepted sheet of at most 7 slabs, by breadth-first search."""
     wished = tuple(goal)
@@ -254,8 +261,7 @@ def shortest(now: Yard, goal: Yard) -> int:
         yard = waiting.popleft()
         if yard == wished:
             return far[yard]
-        for slab, destination in all_lifts(yard):
-            after = tuple(lifted(yard, slab, destination))
+        for after in yards_after(yard):
             if after not in far:
                 far[after] = far[yard] + 1
                 waiting.append(after)
@@ -272,3 +278,11 @@ def deadlocked(now: Yard, goal: Yard) -> bool:
         if waits == left:
             return bool(left)
         left = waits
+
+
+def shows_deadlock(now: Yard, goal: Yard, pairs: Sequence[Pair]) -> bool:
+    """Whether the slabs of some pairs are deadlocked, each with the next one's d beside it."""
+    return bool(pairs) and all(
+        not in_position(now, goal, slab) and d in beneath(goal, slab) and d in beneath(now, after)
+        for (slab, d), (after, _) in zip(pairs, [*pairs[1:], pairs[0]])
+    )

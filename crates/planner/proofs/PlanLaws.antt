@@ -20,7 +20,7 @@ use Rattle.blocks.proofs.AnswerLaws.{plan-refused, plan-refusal, plan-answered}
 use Rattle.blocks.proofs.Theorems.{theorems}
 use Rattle.problem.specs.Checked as problem
 use Rattle.problem.specs.declared.Checked as case
-use Rattle.planner.specs.Answers.{planOf, Plans, Roomy, Solved}
+use Rattle.planner.specs.Answers.{planOf, Plans, Plannable, Solved}
 use Rattle.planner.specs.declared.Planned.the-variants.{Refused, Made}
 
 -- ---- refusals
@@ -76,26 +76,29 @@ module _ {m : ℕ} {s g : State} (space : List ℕ) {c : case.Checked} (low : 1 
     room-way h = refusal (PlanRefused.room method (accepted w e) h)
 
     module _ (h : 4 * length s ≤ length space) {n : ℕ} (wide : n ≡ m) where
-      pub roomy : {cur l gl st rd pc wt bt tp gb hi seen marks : List ℕ} → 4000 ≤ length cur → 4001 ≤ length l → 4001 ≤ length gl → 4001 ≤ length st
+      pub plannable : {cur l gl st rd pc wt bt tp gb hi seen marks : List ℕ} → 4000 ≤ length cur → 4001 ≤ length l → 4001 ≤ length gl → 4001 ≤ length st
           → length rd ≡ 65 → length pc ≡ 65 → length wt ≡ 65 → 4001 ≤ length bt → 4001 ≤ length tp → 4001 ≤ length gb → 4001 ≤ length hi
-          → 4000 ≤ length seen → 4001 ≤ length marks → Roomy n s g cur l gl st rd pc wt bt tp gb hi seen marks space
-      roomy a b c d r₁ r₂ r₃ j k i o p q =
+          → 4000 ≤ length seen → 4001 ≤ length marks → Plannable n s g cur l gl st rd pc wt bt tp gb hi seen marks space
+      plannable a b c d r₁ r₂ r₃ j k i o p q =
           record {
             method = rw wide method;
-            problem = accepted w e;
-            state-room = a;
-            load-room = b;
-            wanted-room = c;
-            stand-room = d;
-            ready-size = r₁;
-            perched-size = r₂;
-            waiting-size = r₃;
-            bottom-room = j;
-            top-room = k;
-            root-room = i;
-            high-room = o;
-            seen-room = p;
-            mark-room = q;
+            lists =
+                record {
+                  problem = accepted w e;
+                  state-room = a;
+                  load-room = b;
+                  wanted-room = c;
+                  stand-room = d;
+                  ready-size = r₁;
+                  perched-size = r₂;
+                  waiting-size = r₃;
+                  bottom-room = j;
+                  top-room = k;
+                  root-room = i;
+                  high-room = o;
+                  seen-room = p;
+                  mark-room = q;
+                };
             room = h;
           }
 

@@ -4,8 +4,8 @@ use mathlib.Core.Path.{_≡_, refl, sym, ap, ap₂, _∙_}
 use mathlib.Core.Logic.{_≢_}
 use mathlib.Core.List.{List, _++_}
 use native.Mathlib.Omega.{arith}
-use lib.ListN.{length, take, drop, length-append}
-use lib.Seq.{sets, length-take-le, length-front}
+use lib.ListN.{length, take, length-append}
+use lib.Seq.{sets}
 use Rattle.blocks.specs.State.{State}
 use Rattle.blocks.specs.Position.{Problem}
 use Rattle.blocks.specs.Move.{Plan, after}
@@ -13,14 +13,17 @@ use Rattle.blocks.specs.Tests.{measure}
 use Rattle.blocks.specs.Method.{plan, precede, iterate, fuel, building, andThen, outcome}
 use Rattle.blocks.specs.Answer.{flat, overwrite, planOutcome}
 use Rattle.blocks.specs.Refusal.{IsMethod}
-use Rattle.blocks.proofs.MeasureLaws.{measure-le, misplaced-le}
 use Rattle.blocks.proofs.MethodLaws.{enough}
 use Rattle.blocks.proofs.FlatLaws.{length-flat}
 use Rattle.problem.specs.Known.{Zeros}
-use Rattle.planner.specs.Runs.{Steppable, Finished, Begun, stepOf}
-use Rattle.planner.specs.Answers.{Roomy, Solvable, Solved}
-use Rattle.planner.proofs.RunningLaws.{running-end, plans-written, front-written}
-use Rattle.planner.proofs.LoopRunLaws.{ran-steppable}
+use Rattle.runs.specs.Runs.{Steppable, Finished}
+use Rattle.statuses.specs.Kept.{Begun}
+use Rattle.choices.specs.Choices.{stepOf}
+use Rattle.planner.specs.Answers.{Solvable, Plannable, Solved}
+use Rattle.runs.proofs.RunningLaws.{plans-written, front-written}
+use Rattle.runs.proofs.LoopRunLaws.{ran-steppable}
+use Rattle.runs.proofs.LentLaws as lent
+use Rattle.runs.proofs.LentLaws.{twice, run-plan, startable, state-within}
 
 -- ---- the outcome of a method by its runs
 
@@ -39,38 +42,18 @@ two-runs s g p q e f = ap (λ o. andThen s o (λ t. iterate (building g) (fuel s
 
 -- ---- the measure bounds the moves, and so the pairs
 
-twice : {s g : State} → Problem s g → measure s g ≤ 2 * length s
-twice {s} {g} p = omega (arith, measure-le s g (p .initial), misplaced-le s g)
-
 fits : {s g : State} (out : List ℕ) (p : Plan) → Problem s g → 4 * length s ≤ length out → length p ≤ measure s g → sets out 0 (flat p) ≡ overwrite (flat p) out
 fits out p q room short = front-written out (flat p) (omega (arith, twice q, room, short, length-flat p))
-
--- a run that has ended gave its plan within the fuel
-run-plan : {kind : ℕ} {s g : State} {k₀ : ℕ} {out₀ : List ℕ} {k : ℕ} {t l gl st rd pc wt bt tp gb hi seen marks out : List ℕ} {f : ℕ}
-    (w : Finished kind s g k₀ out₀ k t l gl st rd pc wt bt tp gb hi seen marks out) → measure s g ≤ f → iterate (stepOf kind g) f s ≡ plan (w .ran .moves)
-run-plan {f = f} w h = running-end (record { end = w .ran .end; reached = w .ran .reached }) (w .ended) f (omega (arith, w .ran .spent, h))
 
 -- ---- the steps of `solve_in`
 
 module _ {m : ℕ} {s g : State} {cur l gl st rd pc wt bt tp gb hi seen marks out : List ℕ} (w : Solvable m s g cur l gl st rd pc wt bt tp gb hi seen marks out)
     {cur₁ l₁ gl₁ st₁ rd₁ pc₁ wt₁ bt₁ tp₁ gb₁ hi₁ : List ℕ} (b : Begun s g cur₁ l₁ gl₁ st₁ rd₁ pc₁ wt₁ bt₁ tp₁ gb₁ hi₁) where
   whole : Problem s g
-  whole = w .begin .problem .problem
+  whole = w .start .begin .problem .problem
 
   pub first-steppable : {marks₁ : List ℕ} → Zeros marks₁ → length marks₁ ≡ length marks → Steppable cur₁ g l₁ gl₁ st₁ rd₁ pc₁ wt₁ bt₁ tp₁ gb₁ hi₁ seen marks₁ out 0
-  first-steppable z e =
-      let small = w .begin .problem .small in
-      rw (b .state) (record {
-        kept = b .kept;
-        visits =
-            record {
-              marked = λ y. omega (arith, z .at y);
-              seen-room = omega (arith, small, w .seen-room);
-              mark-room = omega (arith, small, e, w .mark-room);
-            };
-        room = omega (arith, twice whole, w .room);
-        count = omega (arith, small, twice whole);
-      })
+  first-steppable z e = lent.first-steppable (w .start) b z e (w .room)
 
   -- one run
   pub one-way : {r : ℕ} {t l′ gl′ st′ rd′ pc′ wt′ bt′ tp′ gb′ hi′ seen′ marks′ out′ : List ℕ}
@@ -113,37 +96,9 @@ module _ {m : ℕ} {s g : State} {cur l gl st rd pc wt bt tp gb hi seen marks ou
 
 -- ---- a list just long enough for the state
 
-module _ {m : ℕ} {s g : State} {cur l gl st rd pc wt bt tp gb hi seen marks out : List ℕ} (w : Roomy m s g cur l gl st rd pc wt bt tp gb hi seen marks out) where
-  pub state-within : length s ≤ length cur
-  state-within = omega (arith, w .problem .small, w .state-room)
-
-  pub part-length : length s ≡ length (take (length s) cur)
-  part-length = sym (length-take-le (length s) cur state-within)
+module _ {m : ℕ} {s g : State} {cur l gl st rd pc wt bt tp gb hi seen marks out : List ℕ} (w : Plannable m s g cur l gl st rd pc wt bt tp gb hi seen marks out) where
+  pub state-fits : length s ≤ length cur
+  state-fits = state-within (w .lists)
 
   pub solvable : Solvable m s g (take (length s) cur) l gl st rd pc wt bt tp gb hi seen marks out
-  solvable =
-      record {
-        method = w .method;
-        begin =
-            record {
-              problem = w .problem;
-              state-size = sym part-length;
-              load-room = w .load-room;
-              wanted-room = w .wanted-room;
-              stand-room = w .stand-room;
-              ready-size = w .ready-size;
-              perched-size = w .perched-size;
-              waiting-size = w .waiting-size;
-              bottom-room = w .bottom-room;
-              top-room = w .top-room;
-              root-room = w .root-room;
-              high-room = w .high-room;
-            };
-        seen-room = w .seen-room;
-        mark-room = w .mark-room;
-        room = w .room;
-      }
-
-  -- what is written over the part leaves the whole as long as it was
-  pub whole-length : (t : List ℕ) → length t ≡ length (take (length s) cur) → length (t ++ drop (length s) cur) ≡ length cur
-  whole-length t e = length-front cur t (length s) e
+  solvable = record { method = w .method; start = startable (w .lists); room = w .room }

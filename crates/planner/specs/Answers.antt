@@ -5,14 +5,13 @@ use mathlib.Core.List.{List}
 use mathlib.Core.Option.{some}
 use lib.ListN.{length, take}
 use Rattle.blocks.specs.State.{State}
-use Rattle.blocks.specs.Position.{Accepted}
 use Rattle.blocks.specs.Move.{Plan}
 use Rattle.blocks.specs.Method.{Method, plan}
 use Rattle.blocks.specs.Question.{Asked, allYes, no′, firstNo}
 use Rattle.blocks.specs.Refusal.{IsMethod}
 use Rattle.blocks.specs.Answer.{PlanAnswer, flat, moves, overwrite, methodOf, planOutcome, planQuestions, planAnswer, planSpace}
 use Rattle.blocks.specs.Demands.{Promise}
-use Rattle.planner.specs.Runs.{Beginnable}
+use Rattle.runs.specs.Lent.{Roomy, Startable}
 use Rattle.planner.specs.declared.Planned.{Planned}
 use Rattle.planner.specs.declared.Planned.the-variants.{Refused, Made}
 
@@ -33,12 +32,16 @@ pub record Plans (m : ℕ) (s g : State) (space : List ℕ) (r : Planned) (space
   pub lent : space′ ≡ planSpace m s g space
   pub promise : (c d : ℕ) → r ≡ Made c d → (method : Method) → methodOf m ≡ some method → Promise method s g (moves (take (2 * c) space′))
 
--- An accepted problem, a method, room for the plan, and lists that are long enough for any problem; the list for the state just long enough.
+-- A method, what a run is lent, and room for the plan; the list for the state just long enough.
 pub record Solvable (m : ℕ) (s g : State) (cur l gl st rd pc wt bt tp gb hi seen marks out : List ℕ) : Type 0 where
   pub method : IsMethod m
-  pub begin : Beginnable s g cur l gl st rd pc wt bt tp gb hi
-  pub seen-room : 4000 ≤ length seen
-  pub mark-room : 4001 ≤ length marks
+  pub start : Startable s g cur l gl st rd pc wt bt tp gb hi seen marks
+  pub room : 4 * length s ≤ length out
+
+-- The same with a list for the state that is long enough for any problem.
+pub record Plannable (m : ℕ) (s g : State) (cur l gl st rd pc wt bt tp gb hi seen marks out : List ℕ) : Type 0 where
+  pub method : IsMethod m
+  pub lists : Roomy s g cur l gl st rd pc wt bt tp gb hi seen marks
   pub room : 4 * length s ≤ length out
 
 -- The plan of the method is written from the front, and its length is answered.
@@ -47,22 +50,3 @@ pub record Solved (m : ℕ) (s g : State) (out : List ℕ) (r : ℕ) (out′ : L
   pub outcome : planOutcome m s g ≡ plan moves
   pub count : r ≡ length moves
   pub written : out′ ≡ overwrite (flat moves) out
-
--- The same with a list for the state that is long enough for any problem.
-pub record Roomy (m : ℕ) (s g : State) (cur l gl st rd pc wt bt tp gb hi seen marks out : List ℕ) : Type 0 where
-  pub method : IsMethod m
-  pub problem : Accepted s g
-  pub state-room : 4000 ≤ length cur
-  pub load-room : 4001 ≤ length l
-  pub wanted-room : 4001 ≤ length gl
-  pub stand-room : 4001 ≤ length st
-  pub ready-size : length rd ≡ 65
-  pub perched-size : length pc ≡ 65
-  pub waiting-size : length wt ≡ 65
-  pub bottom-room : 4001 ≤ length bt
-  pub top-room : 4001 ≤ length tp
-  pub root-room : 4001 ≤ length gb
-  pub high-room : 4001 ≤ length hi
-  pub seen-room : 4000 ≤ length seen
-  pub mark-room : 4001 ≤ length marks
-  pub room : 4 * length s ≤ length out

@@ -1,4 +1,4 @@
--- `library_cases::run` is safe and ends. The invariant: both lists keep their lengths. The measure is the number of turns that are left.
+-- `library_cases::run` is safe and ends. The invariant: the lists keep their lengths. The measure is the number of turns that are left.
 -- Assumes nothing.
 use borrow.Author.Needs.{needs}
 use mathlib.Core.Path.{_≡_}
@@ -7,10 +7,10 @@ use Rattle.library_cases.proofs.run.Statement.{statement}
 use Rattle.library_cases.proofs.run.Tie as tie
 
 abbrev Inv-loop : tie.InvT-loop
-Inv-loop nums₀ chunk₀ turns₀ nums chunk turns = (length nums ≡ length nums₀) × (length chunk ≡ length chunk₀)
+Inv-loop nums₀ space₀ chunk₀ turns₀ nums space chunk turns = (length nums ≡ length nums₀) × (length space ≡ length space₀) × (length chunk ≡ length chunk₀)
 
 abbrev μ-loop : tie.MeasureT-loop
-μ-loop nums₀ chunk₀ turns₀ nums chunk turns = turns
+μ-loop nums₀ space₀ chunk₀ turns₀ nums space chunk turns = turns
 
 loop-holds : tie.Need-loop-holds Inv-loop μ-loop
 loop-holds c = search needs
@@ -33,14 +33,20 @@ same-length c = search needs
 same-length-2 : tie.Need-same-length-2 Inv-loop μ-loop
 same-length-2 c = search needs
 
-returns : tie.Need-returns Inv-loop μ-loop
-returns c = search needs
-
 same-length-3 : tie.Need-same-length-3 Inv-loop μ-loop
 same-length-3 c = search needs
 
+returns : tie.Need-returns Inv-loop μ-loop
+returns c = search needs
+
 same-length-4 : tie.Need-same-length-4 Inv-loop μ-loop
 same-length-4 c = search needs
+
+same-length-5 : tie.Need-same-length-5 Inv-loop μ-loop
+same-length-5 c = search needs
+
+same-length-6 : tie.Need-same-length-6 Inv-loop μ-loop
+same-length-6 c = search needs
 
 returns-2 : tie.Need-returns-2 Inv-loop μ-loop
 returns-2 c = search needs
@@ -58,7 +64,9 @@ run-spec =
     loop-again
     same-length
     same-length-2
-    returns
     same-length-3
+    returns
     same-length-4
+    same-length-5
+    same-length-6
     returns-2)

@@ -1,6 +1,6 @@
 -- `plan` meets its contract: one law for each way out. Assumes nothing.
 use borrow.Author.Needs.{needs}
-use Rattle.planner.proofs.PlanLaws.{low-way, high-way, refused-way, room-way, roomy, same-size, made-way}
+use Rattle.planner.proofs.PlanLaws.{low-way, high-way, refused-way, room-way, plannable, same-size, made-way}
 use Rattle.planner.proofs.plan.Statement.{statement}
 use Rattle.planner.proofs.plan.Tie as tie
 
@@ -75,7 +75,7 @@ solve-requires c κs =
     let x = c .before .before .before .before .before .before .before .before .before .before .before .before .before .before in
     let q = x .before in
     let k = q .before .before .before in
-    roomy _ (k .before .before .if1 .left) (k .before .if2 .left) (k .check .ensures) (q .before .enum-told .given .1) (q .if3 .left) (x .wide .ensures)
+    plannable _ (k .before .before .if1 .left) (k .before .if2 .left) (k .check .ensures) (q .before .enum-told .given .1) (q .if3 .left) (x .wide .ensures)
     (search needs)
     (search needs)
     (search needs)

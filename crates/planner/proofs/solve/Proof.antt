@@ -1,16 +1,17 @@
 -- `solve` meets its contract: it lends the front of the list for the state. Assumes nothing.
 use borrow.Author.Needs.{needs}
-use Rattle.planner.proofs.SolveLaws.{state-within, part-length, solvable, whole-length}
+use Rattle.runs.proofs.LentLaws.{part-length, whole-length}
+use Rattle.planner.proofs.SolveLaws.{state-fits, solvable}
 use Rattle.planner.proofs.solve.Statement.{statement}
 use Rattle.planner.proofs.solve.Tie as tie
 
 slice-relend-prefix-solve-in : tie.Need-slice-relend-prefix-solve-in
 slice-relend-prefix-solve-in c =
-    search (needs, state-within)
+    search (needs, state-fits)
 
 slice-aggregate-solve-in : tie.Need-slice-aggregate-solve-in
 slice-aggregate-solve-in c =
-    part-length (c .before .before .before .before .before .before .before .before .before .before .before .before .before .before .before .before .before .pre)
+    part-length (c .before .before .before .before .before .before .before .before .before .before .before .before .before .before .before .before .before .pre .lists)
 
 solve-in-requires : tie.Need-solve-in-requires
 solve-in-requires c κs =
@@ -23,7 +24,7 @@ same-length c =
       whole-length (c .before .before .before .before .before .before .before .before .before .before .before .before .before .before .before .before .before .before
           .before .before .before .before .before .before .before .before .before .before .before .before .before .before .before .before .before .before
           .before .before .before .before .before .before .before .before .before .before .before .before .before .before .before .before .before .before
-          .before .before .before .before .before .pre),
+          .before .before .before .before .before .pre .lists),
       (c .before .before .before .before .before .before .before .before .before .before .before .before .before .before .before .before .before .before
           .before .before .before .before .before .before .before .before .before .before .solve-in .kept .1 .1 .1 .0),
     )

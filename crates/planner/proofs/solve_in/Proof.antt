@@ -1,6 +1,5 @@
 -- `solve_in` meets its contract: everything is begun, and then US makes two runs, the other methods one. Assumes nothing.
 use borrow.Author.Needs.{needs}
-use borrow.Author.Needs.{needs}
 use mathlib.Core.Path.{_∙_}
 use Rattle.planner.proofs.SolveLaws.{first-steppable, second-steppable, one-way, two-way}
 use Rattle.planner.proofs.solve_in.Statement.{statement}
@@ -13,7 +12,7 @@ zero-requires c κs =
 begin-requires : tie.Need-begin-requires
 begin-requires c κs =
     (c .before .before .before .before .before .before .before .before .before .before .before .before .before .before .before .before .before .before
-    .before .before .before .before .before .before .before .before .before .before .before .before .before .pre) .begin
+    .before .before .before .before .before .before .before .before .before .before .before .before .before .pre) .start .begin
 
 run-requires : tie.Need-run-requires
 run-requires c κs =

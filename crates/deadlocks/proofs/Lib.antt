@@ -1,0 +1,4 @@
+pub mod ShowLaws
+pub mod LookLaws
+pub mod SeekLaws
+pub mod TestedLaws

@@ -1,0 +1,177 @@
+-- The start of a run: the lists of the blocks from an accepted problem, the towers from these, and all of it together. Assumes nothing.
+use Prim.Native.Nat.{ℕ, zero, suc, _≤_}
+use mathlib.Core.Path.{_≡_, refl, sym, ap, _∙_}
+use mathlib.Core.Logic.{_≢_}
+use mathlib.Core.Bool.{true, not, cond}
+use mathlib.Core.List.{List}
+use native.Mathlib.Omega.{arith}
+use borrow.Author.Tests.{not-true}
+use lib.Dec.{eqb}
+use lib.ListN.{length, getD, set, length-set}
+use lib.Seq.{getD-set-same, getD-set-other}
+use Rattle.blocks.specs.State.{State}
+use Rattle.blocks.specs.Position.{Proper, Problem}
+use Rattle.blocks.specs.Tests.{inPositionᵇ}
+use Rattle.blocks.proofs.Reflect.{from-false, to-true, eqb-reflects, reflects-same}
+use Rattle.blocks.proofs.PositionLaws.{position-reflects, position-table}
+use Rattle.blocks.proofs.QuestionLaws.{proper-yes}
+use Rattle.problem.specs.Known.{Loads, Fillable, Filled, Climbable, Standings}
+use Rattle.towers.specs.Towers.{Stands, Highs, Climbed}
+use Rattle.towers.specs.Towers as towers
+use Rattle.statuses.specs.Kept.{Sets, Settable, Beginnable, Begun}
+use Rattle.statuses.specs.Begins.{Listable, Listed, Towerable, Towered}
+
+-- ---- the lists of the blocks
+
+-- a proper state has loads
+state-loads : {s : State} {l : List ℕ} {q : ℕ} → Proper s → Filled s q l → Loads s l
+state-loads {s} p f = f .loads (f .place-is ∙ proper-yes s p .1)
+
+-- every block comes down, so it stands 1 or 2; the table is put in position
+stands-from : {s g : State} {st : List ℕ} → Proper s → Standings s g st → Stands s g (set st 0 2)
+stands-from {s} {g} {st} p w = record { room = omega (arith, length-set st 0 2, w .room); at = at }
+  where
+    two : (n : ℕ) → n ≢ 0 → n ≤ 2 → n ≡ cond (eqb n 2) 2 1
+    two zero m h = absurd (m refl)
+    two (suc zero) m h = refl
+    two (suc (suc zero)) m h = refl
+    two (suc (suc (suc n))) m h = absurd (omega arith)
+
+    marked : (b : ℕ) → 1 ≤ b → b ≤ length s → getD st b 0 ≢ 0
+    marked b low high z =
+        let t : not (eqb (getD st b 0) 0) ≡ true = to-true (w .reached b low high) (p .grounded b) in
+        from-false (eqb-reflects (getD st b 0) 0) (not-true (eqb (getD st b 0) 0) t) z
+
+    at : (b : ℕ) → b ≤ length s → getD (set st 0 2) b 0 ≡ cond (inPositionᵇ s g b) 2 1
+    at zero high =
+        getD-set-same st 0 2 0 (omega (arith, w .room))
+        ∙ ap (λ t. cond t 2 1) (sym (to-true (position-reflects s g p 0) (position-table s g)))
+    at (suc i) high =
+        getD-set-other st 0 (suc i) 2 0 (λ q. omega arith)
+        ∙ two (getD st (suc i) 0) (marked (suc i) (omega arith) high) (w .small (suc i) (omega arith) high)
+        ∙ ap (λ t. cond t 2 1) (reflects-same (λ x. x) (λ x. x) (w .right (suc i) (omega arith) high (p .grounded (suc i))) (position-reflects s g p (suc i)))
+
+module _ {s g : State} {cur l gl st : List ℕ} (w : Listable s g cur l gl st) where
+  problem : Problem s g
+  problem = w .problem .problem
+
+  pub fillable : Fillable s l
+  fillable = record { small = w .problem .small; entries = proper-yes s (problem .initial) .0; room = w .load-room }
+
+  pub goal-fillable : Fillable g gl
+  goal-fillable =
+      record {
+        small = omega (arith, problem .same, w .problem .small);
+        entries = proper-yes g (problem .goal) .0;
+        room = omega (arith, problem .same, w .wanted-room);
+      }
+
+  pub climbable : {l′ : List ℕ} {q : ℕ} → Filled s q l′ → Climbable s g l′ st
+  climbable f =
+      record {
+        small = w .problem .small;
+        entries = proper-yes s (problem .initial) .0;
+        carries = proper-yes s (problem .initial) .1;
+        same = problem .same;
+        loads = state-loads (problem .initial) f;
+        room = w .stand-room;
+      }
+
+  pub listed : {cur′ l′ gl′ st′ : List ℕ} {q r : ℕ} → cur′ ≡ s → Filled s q l′ → Filled g r gl′ → Standings s g st′ → Listed s g cur′ l′ gl′ (set st′ 0 2)
+  listed e f h k =
+      record {
+        state = e;
+        known =
+            record {
+              small = w .problem .small;
+              problem = problem;
+              loads = state-loads (problem .initial) f;
+              stands = stands-from (problem .initial) k;
+            };
+        goal-loads = state-loads (problem .goal) h;
+      }
+
+-- ---- the towers
+
+module _ {s g : State} {l gl st bt tp gb hi : List ℕ} (w : Towerable s g l gl st bt tp gb hi) where
+  pub towers-fillable : towers.Fillable s l bt tp
+  towers-fillable =
+      record {
+        small = w .known .small;
+        proper = w .known .problem .initial;
+        loads = w .known .loads;
+        bottom-room = w .bottom-room;
+        top-room = w .top-room;
+      }
+
+  pub roots-fillable : towers.Fillable g gl gb hi
+  roots-fillable =
+      let same = w .known .problem .same in
+      record {
+        small = omega (arith, same, w .known .small);
+        proper = w .known .problem .goal;
+        loads = w .goal-loads;
+        bottom-room = omega (arith, same, w .root-room);
+        top-room = omega (arith, same, w .high-room);
+      }
+
+  pub climbed : {gb′ hi′ : List ℕ} → towers.Filled g gb′ hi′ → Climbed s g gl gb′ st hi′
+  climbed f =
+      record {
+        small = w .known .small;
+        problem = w .known .problem;
+        loads = w .goal-loads;
+        bottoms = f .bottoms;
+        stands = w .known .stands;
+        room = omega (arith, w .known .problem .same, f .tops .room);
+      }
+
+pub towered : {s g : State} {bt tp gb h hi : List ℕ} → towers.Filled s bt tp → towers.Filled g gb h → Highs s g hi → Towered s g bt tp gb hi
+towered e f k = record { bottoms = e .bottoms; tops = e .tops; roots = f .bottoms; highs = k }
+
+-- ---- all
+
+module _ {s g : State} {cur l gl st rd pc wt bt tp gb hi : List ℕ} (w : Beginnable s g cur l gl st rd pc wt bt tp gb hi) where
+  pub listable : Listable s g cur l gl st
+  listable =
+      let small = w .problem .small in
+      record {
+        problem = w .problem;
+        state-size = w .state-size;
+        load-room = omega (arith, small, w .load-room);
+        wanted-room = omega (arith, small, w .wanted-room);
+        stand-room = omega (arith, small, w .stand-room);
+      }
+
+  module _ {cur′ l′ gl′ st′ : List ℕ} (k : Listed s g cur′ l′ gl′ st′) where
+    pub towerable : Towerable s g l′ gl′ st′ bt tp gb hi
+    towerable =
+        let small = w .problem .small in
+        record {
+          known = k .known;
+          goal-loads = k .goal-loads;
+          bottom-room = omega (arith, small, w .bottom-room);
+          top-room = omega (arith, small, w .top-room);
+          root-room = omega (arith, small, w .root-room);
+          high-room = omega (arith, small, w .high-room);
+        }
+
+    pub settable : Settable s g l′ st′ rd pc wt
+    settable = record { known = k .known; ready-size = w .ready-size; perched-size = w .perched-size; waiting-size = w .waiting-size }
+
+    pub begun : {rd′ pc′ wt′ bt′ tp′ gb′ hi′ : List ℕ} → Towered s g bt′ tp′ gb′ hi′ → Sets s g rd′ pc′ wt′
+        → Begun s g cur′ l′ gl′ st′ rd′ pc′ wt′ bt′ tp′ gb′ hi′
+    begun t q =
+        record {
+          state = k .state;
+          kept =
+              record {
+                known = k .known;
+                goal-loads = k .goal-loads;
+                sets = q;
+                bottoms = t .bottoms;
+                tops = t .tops;
+                roots = t .roots;
+                highs = t .highs;
+              };
+        }

@@ -1,0 +1,40 @@
+-- The start of a run in two parts: the lists of the blocks, and those of the towers. Assumes nothing.
+use Prim.Native.Nat.{ℕ, _<_}
+use mathlib.Core.Path.{_≡_}
+use mathlib.Core.List.{List}
+use lib.ListN.{length}
+use Rattle.blocks.specs.State.{State}
+use Rattle.blocks.specs.Position.{Accepted}
+use Rattle.problem.specs.Known.{Loads}
+use Rattle.towers.specs.Towers.{Bottoms, Tops, Highs}
+use Rattle.statuses.specs.Kept.{Known}
+
+-- An accepted problem, and room for the loads and for how the blocks stand.
+pub record Listable (s g : State) (cur l gl st : List ℕ) : Type 0 where
+  pub problem : Accepted s g
+  pub state-size : length cur ≡ length s
+  pub load-room : length s < length l
+  pub wanted-room : length s < length gl
+  pub stand-room : length s < length st
+
+-- The state is copied, and its blocks and the goal's loads are known.
+pub record Listed (s g : State) (cur l gl st : List ℕ) : Type 0 where
+  pub state : cur ≡ s
+  pub known : Known s g l st
+  pub goal-loads : Loads g gl
+
+-- What the towers are filled from, and room for them.
+pub record Towerable (s g : State) (l gl st bt tp gb hi : List ℕ) : Type 0 where
+  pub known : Known s g l st
+  pub goal-loads : Loads g gl
+  pub bottom-room : length s < length bt
+  pub top-room : length s < length tp
+  pub root-room : length s < length gb
+  pub high-room : length s < length hi
+
+-- The towers of the state and of the goal.
+pub record Towered (s g : State) (bt tp gb hi : List ℕ) : Type 0 where
+  pub bottoms : Bottoms s bt
+  pub tops : Tops s tp
+  pub roots : Bottoms g gb
+  pub highs : Highs s g hi
