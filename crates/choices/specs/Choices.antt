@@ -69,9 +69,9 @@ pub record Marks (s : State) (seen marks : List ℕ) (k : ℕ) : Type 0 where
   pub seen-room : length s ≤ length seen
   pub mark-room : length s < length marks
 
--- The next move can be chosen, the k-th counted from 0.
-pub record Pickable (s g : State) (l gl st rd pc wt bt tp gb hi seen marks : List ℕ) (k : ℕ) : Type 0 where
-  pub kept : Kept s g l gl st rd pc wt bt tp gb hi
+-- The next move of a run of a kind can be chosen, the k-th counted from 0.
+pub record Pickable (kind : ℕ) (s g : State) (l gl st rd lo bt tp gb hi seen marks : List ℕ) (k : ℕ) : Type 0 where
+  pub kept : Kept kind s g l gl st rd lo bt tp gb hi
   pub visits : Marks s seen marks k
   pub count : k < 65535
 

@@ -21,8 +21,7 @@ pub fn pick(
     wanted: &[u16],
     stands: &[u16],
     ready: &[u64],
-    perched: &[u64],
-    waiting: &[u64],
+    loose: &[u64],
     bottoms: &[u16],
     tops: &[u16],
     roots: &[u16],
@@ -31,12 +30,12 @@ pub fn pick(
     marks: &mut [u16],
     k: usize,
 ) -> Picked
-    requires { ⌜ Pickable (now cur) (now goal) (now load) (now wanted) (now stands) (now ready) (now perched) (now waiting) (now bottoms) (now tops) (now roots) (now highs) (now seen) (now marks) k ⌝ }
+    requires { ⌜ Pickable kind (now cur) (now goal) (now load) (now wanted) (now stands) (now ready) (now loose) (now bottoms) (now tops) (now roots) (now highs) (now seen) (now marks) k ⌝ }
     ensures { λ r. ⌜ Picks kind (now (cur .entry)) (now (goal .entry)) (now (seen .exit)) (now (marks .exit)) k r ⌝ }
 {
     if kind == 0 {
         return Picked {
-            block: numberset::lowest(perched),
+            block: numberset::lowest(loose),
             dest: 0,
         };
     }
@@ -50,17 +49,16 @@ pub fn pick(
     if kind == 1 {
         return Picked { block: 0, dest: 0 };
     }
-    let down = numberset::lowest(perched);
-    if kind == 2 {
+    let low = numberset::lowest(loose);
+    if kind < 3 {
         return Picked {
-            block: down,
+            block: low,
             dest: 0,
         };
     }
-    if down == 0 {
+    if low == 0 {
         return Picked { block: 0, dest: 0 };
     }
-    let start = numberset::lowest(waiting);
     let span = walk(
         cur,
         goal,
@@ -72,7 +70,7 @@ pub fn pick(
         highs,
         seen,
         marks,
-        start,
+        low,
         k + 1,
     );
     Picked {

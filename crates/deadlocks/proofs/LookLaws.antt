@@ -15,9 +15,6 @@ use Rattle.blocks.specs.Stall.{Waiting}
 use Rattle.blocks.specs.Tests.{misplacedCount}
 use Rattle.blocks.specs.Loop.{loop, onward, blockedPairs}
 use Rattle.blocks.specs.Answer.{overwrite}
-use Rattle.blocks.proofs.Reflect.{not-not, eqb-reflects}
-use Rattle.blocks.proofs.StallLaws.{waiting-above}
-use Rattle.blocks.proofs.MethodLaws.{some-misplaced}
 use Rattle.blocks.proofs.LoopLaws.{loop-closed, loop-short, onward-length}
 use Rattle.numberset.specs.Members.{member, Valid}
 use Rattle.choices.specs.Choices.{Walkable, Walked, part}
@@ -28,25 +25,26 @@ use Rattle.choices.proofs.WalkLaws.{lowest-on-loop}
 use Rattle.choices.proofs.PickLaws as pick
 use Rattle.deadlocks.specs.Looks.{Showable, Lookable, Looked, loopOf}
 
-module _ {s g : State} {l gl st rd pc wt bt tp gb hi seen marks : List ℕ} {k : ℕ} {out : List ℕ}
-    (w : Lookable s g l gl st rd pc wt bt tp gb hi seen marks k out) where
+module _ {s g : State} {l gl st rd lo bt tp gb hi seen marks : List ℕ} {k : ℕ} {out : List ℕ}
+    (w : Lookable s g l gl st rd lo bt tp gb hi seen marks k out) where
   p : Problem s g
   p = w .kept .kept .known .problem
 
-  pub waiting-may : Valid wt × (member wt 0 ≡ false)
-  waiting-may = pick.waiting-may (w .kept)
+  pub loose-may : Valid lo × (member lo 0 ≡ false)
+  loose-may = pick.loose-may (w .kept)
 
   pub mark-fits : k < 65535
   mark-fits = w .kept .count
 
-  module _ {start : ℕ} (e : start ≡ lowest (member wt) 4095) where
+  deep : 3 ≤ 3
+  deep = omega arith
+
+  module _ {start : ℕ} (e : start ≡ lowest (member lo) 4095) where
     -- nothing waits, so nothing is misplaced
     pub none-way : start ≡ 0 → Looked s g out 0 out
     unfolding blockedPairs
     none-way z =
-        let none : misplacedCount s g ≡ 0 = not-not (eqb-reflects (misplacedCount s g) 0) (λ n.
-        let m = some-misplaced p n in
-        pick.start-found (w .kept) e (waiting-above p (m .0) (m .1)) z) in
+        let none : misplacedCount s g ≡ 0 = pick.start-none (w .kept) deep e z in
         let empty : loopOf s g ≡ [] = ap (λ t. cond t [] (onward s (loop s g))) (eq-eqb (misplacedCount s g) 0 none) in
         record { count = ap length (sym empty); written = wrote (loopOf s g) empty }
       where
@@ -55,10 +53,10 @@ module _ {s g : State} {l gl st rd pc wt bt tp gb hi seen marks : List ℕ} {k :
 
     module _ (n : start ≢ 0) where
       waits : Waiting s g start
-      waits = pick.start-waits (w .kept) e n
+      waits = pick.start-waits (w .kept) deep e n
 
       pub walkable : Walkable s g l gl bt tp gb hi seen marks start (k + 1)
-      walkable = pick.walkable-from (w .kept) (w .stalled) e n
+      walkable = pick.walkable-from (w .kept) deep (w .stalled) e n
 
       module _ {seen′ marks′ : List ℕ} {m : ℕ} {r : Span} (v : Walked s g seen′ marks′ m r) (same : length seen′ ≡ length seen) where
         pub in-order : r .from ≤ r .to
@@ -76,7 +74,7 @@ module _ {s g : State} {l gl st rd pc wt bt tp gb hi seen marks : List ℕ} {k :
           pub showable : Showable s g l gl bt tp gb hi out low count
           showable =
               record {
-                linked = pick.linked (w .kept);
+                linked = pick.linked (w .kept) deep;
                 stalled = w .stalled;
                 closed = loop-closed p (w .stalled) (waits .0);
                 first = lowest-on-loop p (w .stalled) (waits .0) v q;

@@ -11,7 +11,8 @@ use Rattle.blocks.specs.Method.{stop, toGoal, endOf, lowestReady, building, set
 use Rattle.blocks.proofs.StepLaws.{ready-none}
 use Rattle.blocks.proofs.MethodLaws.{enough}
 use Rattle.problem.specs.Known.{Zeros}
-use Rattle.statuses.specs.Kept.{Begun}
+use Rattle.statuses.specs.Kept.{Kept, Begun}
+use Rattle.statuses.specs.Begins.{Fittable}
 use Rattle.runs.specs.Runs.{Steppable, Finished}
 use Rattle.runs.proofs.LentLaws as lent
 use Rattle.runs.proofs.LentLaws.{twice, run-plan, startable, state-within}
@@ -28,29 +29,48 @@ none-ready {s} {g} p e = ready-none p (by (lowestReady s g) e)
 
 -- ---- the steps of `seek_in`
 
-module _ {s g : State} {cur l gl st rd pc wt bt tp gb hi seen marks moves out : List ℕ} (w : Seekable s g cur l gl st rd pc wt bt tp gb hi seen marks moves out)
-    {cur₁ l₁ gl₁ st₁ rd₁ pc₁ wt₁ bt₁ tp₁ gb₁ hi₁ : List ℕ} (b : Begun s g cur₁ l₁ gl₁ st₁ rd₁ pc₁ wt₁ bt₁ tp₁ gb₁ hi₁) where
+module _ {s g : State} {cur l gl st rd lo bt tp gb hi seen marks moves out : List ℕ} (w : Seekable s g cur l gl st rd lo bt tp gb hi seen marks moves out)
+    {cur₁ l₁ gl₁ st₁ rd₁ lo₁ bt₁ tp₁ gb₁ hi₁ : List ℕ} (b : Begun 1 s g cur₁ l₁ gl₁ st₁ rd₁ lo₁ bt₁ tp₁ gb₁ hi₁) where
   whole : Problem s g
   whole = w .start .begin .problem .problem
 
-  pub first-steppable : {marks₁ : List ℕ} → Zeros marks₁ → length marks₁ ≡ length marks → Steppable cur₁ g l₁ gl₁ st₁ rd₁ pc₁ wt₁ bt₁ tp₁ gb₁ hi₁ seen marks₁ moves 0
+  pub first-steppable : {marks₁ : List ℕ} → Zeros marks₁ → length marks₁ ≡ length marks → Steppable 1 cur₁ g l₁ gl₁ st₁ rd₁ lo₁ bt₁ tp₁ gb₁ hi₁ seen marks₁ moves 0
   first-steppable z e = lent.first-steppable (w .start) b z e (w .move-room)
 
-  module _ {k : ℕ} {t l₂ gl₂ st₂ rd₂ pc₂ wt₂ bt₂ tp₂ gb₂ hi₂ seen₂ marks₂ moves₂ : List ℕ}
-      (f : Finished 1 cur₁ g 0 moves k t l₂ gl₂ st₂ rd₂ pc₂ wt₂ bt₂ tp₂ gb₂ hi₂ seen₂ marks₂ moves₂) where
+  module _ {k : ℕ} {t l₂ gl₂ st₂ rd₂ lo₂ bt₂ tp₂ gb₂ hi₂ seen₂ marks₂ moves₂ : List ℕ}
+      (f : Finished 1 cur₁ g 0 moves k t l₂ gl₂ st₂ rd₂ lo₂ bt₂ tp₂ gb₂ hi₂ seen₂ marks₂ moves₂) where
     settles : t ≡ settled s g
     unfolding settled
     settles =
         let f₁ = rw (b .state) at f in
         f₁ .ran .end ∙ ap (endOf s) (sym (run-plan f₁ (enough whole)))
 
-    pub lookable : length t ≡ length cur₁ → Lookable t g l₂ gl₂ st₂ rd₂ pc₂ wt₂ bt₂ tp₂ gb₂ hi₂ seen₂ marks₂ k out
-    lookable e =
+    -- the towers are filled, and the sets anew
+    pub fittable : length t ≡ length cur₁ → length bt₂ ≡ length bt → length tp₂ ≡ length tp → length gb₂ ≡ length gb → length hi₂ ≡ length hi
+        → Fittable t g l₂ gl₂ st₂ rd₂ lo₂ bt₂ tp₂ gb₂ hi₂
+    fittable e eb et er eh =
+        let small = w .start .begin .problem .small in
+        let long : length t ≡ length s = e ∙ ap length (b .state) in
+        let sets = f .ran .kept .sets in
+        record {
+          known = f .ran .kept .known;
+          goal-loads = f .ran .kept .goal-loads;
+          ready-size = sets .ready .valid .size;
+          loose-size = sets .loose .valid .size;
+          bottom-room = omega (arith, small, long, eb, w .start .begin .bottom-room);
+          top-room = omega (arith, small, long, et, w .start .begin .top-room);
+          root-room = omega (arith, small, long, er, w .start .begin .root-room);
+          high-room = omega (arith, small, long, eh, w .start .begin .high-room);
+        }
+
+    pub lookable : {rd₃ lo₃ bt₃ tp₃ gb₃ hi₃ : List ℕ} → length t ≡ length cur₁ → Kept 3 t g l₂ gl₂ st₂ rd₃ lo₃ bt₃ tp₃ gb₃ hi₃
+        → Lookable t g l₂ gl₂ st₂ rd₃ lo₃ bt₃ tp₃ gb₃ hi₃ seen₂ marks₂ k out
+    lookable e q =
         let f₁ = rw (b .state) at f in
         record {
           kept =
               record {
-                kept = f .ran .kept;
+                kept = q;
                 visits = f .ran .visits;
                 count = omega (arith, f₁ .ran .count, f₁ .ran .spent, twice whole, w .start .begin .problem .small);
               };
@@ -64,9 +84,9 @@ module _ {s g : State} {cur l gl st rd pc wt bt tp gb hi seen marks moves out : 
 
 -- ---- a list just long enough for the state
 
-module _ {s g : State} {cur l gl st rd pc wt bt tp gb hi seen marks moves out : List ℕ} (w : Testable s g cur l gl st rd pc wt bt tp gb hi seen marks moves out) where
+module _ {s g : State} {cur l gl st rd lo bt tp gb hi seen marks moves out : List ℕ} (w : Testable s g cur l gl st rd lo bt tp gb hi seen marks moves out) where
   pub state-fits : length s ≤ length cur
   state-fits = state-within (w .lists)
 
-  pub seekable : Seekable s g (take (length s) cur) l gl st rd pc wt bt tp gb hi seen marks moves out
+  pub seekable : Seekable s g (take (length s) cur) l gl st rd lo bt tp gb hi seen marks moves out
   seekable = record { start = startable (w .lists); move-room = w .move-room; room = w .room }

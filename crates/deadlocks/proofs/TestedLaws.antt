@@ -50,10 +50,10 @@ module _ {s g : State} (space : List ℕ) {c : case.Checked} (w : problem.Checks
     room-way h = refusal (DeadlockRefused.room (accepted w e) h)
 
     module _ (h : 2 * length s ≤ length space) where
-      pub testable : {cur l gl st rd pc wt bt tp gb hi seen marks moves : List ℕ} → 4000 ≤ length cur → 4001 ≤ length l → 4001 ≤ length gl → 4001 ≤ length st
-          → length rd ≡ 65 → length pc ≡ 65 → length wt ≡ 65 → 4001 ≤ length bt → 4001 ≤ length tp → 4001 ≤ length gb → 4001 ≤ length hi
-          → 4000 ≤ length seen → 4001 ≤ length marks → 16000 ≤ length moves → Testable s g cur l gl st rd pc wt bt tp gb hi seen marks moves space
-      testable a b c d r₁ r₂ r₃ j k i o p q v =
+      pub testable : {cur l gl st rd lo bt tp gb hi seen marks moves : List ℕ} → 4000 ≤ length cur → 4001 ≤ length l → 4001 ≤ length gl → 4001 ≤ length st
+          → length rd ≡ 65 → length lo ≡ 65 → 4001 ≤ length bt → 4001 ≤ length tp → 4001 ≤ length gb → 4001 ≤ length hi
+          → 4000 ≤ length seen → 4001 ≤ length marks → 16000 ≤ length moves → Testable s g cur l gl st rd lo bt tp gb hi seen marks moves space
+      testable a b c d r₁ r₂ j k i o p q v =
           record {
             lists =
                 record {
@@ -63,8 +63,7 @@ module _ {s g : State} (space : List ℕ) {c : case.Checked} (w : problem.Checks
                   wanted-room = c;
                   stand-room = d;
                   ready-size = r₁;
-                  perched-size = r₂;
-                  waiting-size = r₃;
+                  loose-size = r₂;
                   bottom-room = j;
                   top-room = k;
                   root-room = i;

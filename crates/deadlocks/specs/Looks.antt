@@ -28,8 +28,8 @@ abbrev pub loopOf : State → State → List ℕ
 loopOf s g = cond (eqb (misplacedCount s g) 0) [] (onward s (loop s g))
 
 -- No block is ready, and there is room for every pair.
-pub record Lookable (s g : State) (l gl st rd pc wt bt tp gb hi seen marks : List ℕ) (k : ℕ) (out : List ℕ) : Type 0 where
-  pub kept : Pickable s g l gl st rd pc wt bt tp gb hi seen marks k
+pub record Lookable (s g : State) (l gl st rd lo bt tp gb hi seen marks : List ℕ) (k : ℕ) (out : List ℕ) : Type 0 where
+  pub kept : Pickable 3 s g l gl st rd lo bt tp gb hi seen marks k
   pub stalled : NoneReady s g
   pub room : 2 * length s ≤ length out
 
@@ -38,14 +38,14 @@ pub record Looked (s g : State) (out : List ℕ) (r : ℕ) (out′ : List ℕ) :
   pub written : out′ ≡ overwrite (blockedPairs s g (loopOf s g)) out
 
 -- What a run is lent, room for its moves, and room for the pairs; the list for the state just long enough.
-pub record Seekable (s g : State) (cur l gl st rd pc wt bt tp gb hi seen marks moves out : List ℕ) : Type 0 where
-  pub start : Startable s g cur l gl st rd pc wt bt tp gb hi seen marks
+pub record Seekable (s g : State) (cur l gl st rd lo bt tp gb hi seen marks moves out : List ℕ) : Type 0 where
+  pub start : Startable s g cur l gl st rd lo bt tp gb hi seen marks
   pub move-room : 4 * length s ≤ length moves
   pub room : 2 * length s ≤ length out
 
 -- The same with a list for the state that is long enough for any problem.
-pub record Testable (s g : State) (cur l gl st rd pc wt bt tp gb hi seen marks moves out : List ℕ) : Type 0 where
-  pub lists : Roomy s g cur l gl st rd pc wt bt tp gb hi seen marks
+pub record Testable (s g : State) (cur l gl st rd lo bt tp gb hi seen marks moves out : List ℕ) : Type 0 where
+  pub lists : Roomy s g cur l gl st rd lo bt tp gb hi seen marks
   pub move-room : 4 * length s ≤ length moves
   pub room : 2 * length s ≤ length out
 

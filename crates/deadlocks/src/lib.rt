@@ -32,8 +32,7 @@ pub fn deadlock(initial: &[u16], goal: &[u16], out: &mut [u16]) -> Tested
     let mut wanted = [0u16; 4001];
     let mut stands = [0u16; 4001];
     let mut ready = [0u64; 65];
-    let mut perched = [0u64; 65];
-    let mut waiting = [0u64; 65];
+    let mut loose = [0u64; 65];
     let mut bottoms = [0u16; 4001];
     let mut tops = [0u16; 4001];
     let mut roots = [0u16; 4001];
@@ -49,8 +48,7 @@ pub fn deadlock(initial: &[u16], goal: &[u16], out: &mut [u16]) -> Tested
         &mut wanted,
         &mut stands,
         &mut ready,
-        &mut perched,
-        &mut waiting,
+        &mut loose,
         &mut bottoms,
         &mut tops,
         &mut roots,
@@ -75,8 +73,7 @@ fn seek(
     wanted: &mut [u16],
     stands: &mut [u16],
     ready: &mut [u64],
-    perched: &mut [u64],
-    waiting: &mut [u64],
+    loose: &mut [u64],
     bottoms: &mut [u16],
     tops: &mut [u16],
     roots: &mut [u16],
@@ -86,7 +83,7 @@ fn seek(
     moves: &mut [u16],
     out: &mut [u16],
 ) -> usize
-    requires { ⌜ Testable (now initial) (now goal) (now cur) (now load) (now wanted) (now stands) (now ready) (now perched) (now waiting) (now bottoms) (now tops) (now roots) (now highs) (now seen) (now marks) (now moves) (now out) ⌝ }
+    requires { ⌜ Testable (now initial) (now goal) (now cur) (now load) (now wanted) (now stands) (now ready) (now loose) (now bottoms) (now tops) (now roots) (now highs) (now seen) (now marks) (now moves) (now out) ⌝ }
     ensures { λ r. ⌜ Sought (now (initial .entry)) (now (goal .entry)) (now (out .entry)) r (now (out .exit)) ⌝ }
 {
     let n = initial.len();
@@ -98,8 +95,7 @@ fn seek(
         wanted,
         stands,
         ready,
-        perched,
-        waiting,
+        loose,
         bottoms,
         tops,
         roots,
@@ -112,6 +108,7 @@ fn seek(
 }
 
 // The same, with a list just long enough for the state: constructive moves on a copy of the state until none is left, and a look at what is then misplaced.
+// The moves need no towers; these are filled once, for the look.
 fn seek_in(
     initial: &[u16],
     goal: &[u16],
@@ -120,8 +117,7 @@ fn seek_in(
     wanted: &mut [u16],
     stands: &mut [u16],
     ready: &mut [u64],
-    perched: &mut [u64],
-    waiting: &mut [u64],
+    loose: &mut [u64],
     bottoms: &mut [u16],
     tops: &mut [u16],
     roots: &mut [u16],
@@ -131,11 +127,12 @@ fn seek_in(
     moves: &mut [u16],
     out: &mut [u16],
 ) -> usize
-    requires { ⌜ Seekable (now initial) (now goal) (now cur) (now load) (now wanted) (now stands) (now ready) (now perched) (now waiting) (now bottoms) (now tops) (now roots) (now highs) (now seen) (now marks) (now moves) (now out) ⌝ }
+    requires { ⌜ Seekable (now initial) (now goal) (now cur) (now load) (now wanted) (now stands) (now ready) (now loose) (now bottoms) (now tops) (now roots) (now highs) (now seen) (now marks) (now moves) (now out) ⌝ }
     ensures { λ r. ⌜ Sought (now (initial .entry)) (now (goal .entry)) (now (out .entry)) r (now (out .exit)) ⌝ }
 {
     problem::zero(marks);
     statuses::begin(
+        1,
         initial,
         goal,
         cur,
@@ -143,8 +140,7 @@ fn seek_in(
         wanted,
         stands,
         ready,
-        perched,
-        waiting,
+        loose,
         bottoms,
         tops,
         roots,
@@ -158,8 +154,7 @@ fn seek_in(
         wanted,
         stands,
         ready,
-        perched,
-        waiting,
+        loose,
         bottoms,
         tops,
         roots,
@@ -169,6 +164,20 @@ fn seek_in(
         moves,
         0,
     );
+    statuses::fit(
+        3,
+        cur,
+        goal,
+        load,
+        wanted,
+        stands,
+        ready,
+        loose,
+        bottoms,
+        tops,
+        roots,
+        highs,
+    );
     look(
         cur,
         goal,
@@ -176,8 +185,7 @@ fn seek_in(
         wanted,
         stands,
         ready,
-        perched,
-        waiting,
+        loose,
         bottoms,
         tops,
         roots,
@@ -198,8 +206,7 @@ fn look(
     wanted: &[u16],
     stands: &[u16],
     ready: &[u64],
-    perched: &[u64],
-    waiting: &[u64],
+    loose: &[u64],
     bottoms: &[u16],
     tops: &[u16],
     roots: &[u16],
@@ -209,10 +216,10 @@ fn look(
     k: usize,
     out: &mut [u16],
 ) -> usize
-    requires { ⌜ Lookable (now cur) (now goal) (now load) (now wanted) (now stands) (now ready) (now perched) (now waiting) (now bottoms) (now tops) (now roots) (now highs) (now seen) (now marks) k (now out) ⌝ }
+    requires { ⌜ Lookable (now cur) (now goal) (now load) (now wanted) (now stands) (now ready) (now loose) (now bottoms) (now tops) (now roots) (now highs) (now seen) (now marks) k (now out) ⌝ }
     ensures { λ r. ⌜ Looked (now (cur .entry)) (now (goal .entry)) (now (out .entry)) r (now (out .exit)) ⌝ }
 {
-    let start = numberset::lowest(waiting);
+    let start = numberset::lowest(loose);
     if start == 0 {
         return 0;
     }

@@ -76,10 +76,10 @@ module _ {m : ℕ} {s g : State} (space : List ℕ) {c : case.Checked} (low : 1 
     room-way h = refusal (PlanRefused.room method (accepted w e) h)
 
     module _ (h : 4 * length s ≤ length space) {n : ℕ} (wide : n ≡ m) where
-      pub plannable : {cur l gl st rd pc wt bt tp gb hi seen marks : List ℕ} → 4000 ≤ length cur → 4001 ≤ length l → 4001 ≤ length gl → 4001 ≤ length st
-          → length rd ≡ 65 → length pc ≡ 65 → length wt ≡ 65 → 4001 ≤ length bt → 4001 ≤ length tp → 4001 ≤ length gb → 4001 ≤ length hi
-          → 4000 ≤ length seen → 4001 ≤ length marks → Plannable n s g cur l gl st rd pc wt bt tp gb hi seen marks space
-      plannable a b c d r₁ r₂ r₃ j k i o p q =
+      pub plannable : {cur l gl st rd lo bt tp gb hi seen marks : List ℕ} → 4000 ≤ length cur → 4001 ≤ length l → 4001 ≤ length gl → 4001 ≤ length st
+          → length rd ≡ 65 → length lo ≡ 65 → 4001 ≤ length bt → 4001 ≤ length tp → 4001 ≤ length gb → 4001 ≤ length hi
+          → 4000 ≤ length seen → 4001 ≤ length marks → Plannable n s g cur l gl st rd lo bt tp gb hi seen marks space
+      plannable a b c d r₁ r₂ j k i o p q =
           record {
             method = rw wide method;
             lists =
@@ -90,8 +90,7 @@ module _ {m : ℕ} {s g : State} (space : List ℕ) {c : case.Checked} (low : 1 
                   wanted-room = c;
                   stand-room = d;
                   ready-size = r₁;
-                  perched-size = r₂;
-                  waiting-size = r₃;
+                  loose-size = r₂;
                   bottom-room = j;
                   top-room = k;
                   root-room = i;

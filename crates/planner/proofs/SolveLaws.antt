@@ -23,7 +23,7 @@ use Rattle.planner.specs.Answers.{Solvable, Plannable, Solved}
 use Rattle.runs.proofs.RunningLaws.{plans-written, front-written}
 use Rattle.runs.proofs.LoopRunLaws.{ran-steppable}
 use Rattle.runs.proofs.LentLaws as lent
-use Rattle.runs.proofs.LentLaws.{twice, run-plan, startable, state-within}
+use Rattle.runs.proofs.LentLaws.{twice, run-plan, steps-low, startable, state-within}
 
 -- ---- the outcome of a method by its runs
 
@@ -47,17 +47,22 @@ fits out p q room short = front-written out (flat p) (omega (arith, twice q, roo
 
 -- ---- the steps of `solve_in`
 
-module _ {m : ℕ} {s g : State} {cur l gl st rd pc wt bt tp gb hi seen marks out : List ℕ} (w : Solvable m s g cur l gl st rd pc wt bt tp gb hi seen marks out)
-    {cur₁ l₁ gl₁ st₁ rd₁ pc₁ wt₁ bt₁ tp₁ gb₁ hi₁ : List ℕ} (b : Begun s g cur₁ l₁ gl₁ st₁ rd₁ pc₁ wt₁ bt₁ tp₁ gb₁ hi₁) where
+module _ {m : ℕ} {s g : State} {cur l gl st rd lo bt tp gb hi seen marks out : List ℕ} (w : Solvable m s g cur l gl st rd lo bt tp gb hi seen marks out)
+    {cur₁ l₁ gl₁ st₁ rd₁ lo₁ bt₁ tp₁ gb₁ hi₁ : List ℕ} (b : Begun m s g cur₁ l₁ gl₁ st₁ rd₁ lo₁ bt₁ tp₁ gb₁ hi₁) where
   whole : Problem s g
   whole = w .start .begin .problem .problem
 
-  pub first-steppable : {marks₁ : List ℕ} → Zeros marks₁ → length marks₁ ≡ length marks → Steppable cur₁ g l₁ gl₁ st₁ rd₁ pc₁ wt₁ bt₁ tp₁ gb₁ hi₁ seen marks₁ out 0
+  pub first-steppable : {marks₁ : List ℕ} → Zeros marks₁ → length marks₁ ≡ length marks → Steppable m cur₁ g l₁ gl₁ st₁ rd₁ lo₁ bt₁ tp₁ gb₁ hi₁ seen marks₁ out 0
   first-steppable z e = lent.first-steppable (w .start) b z e (w .room)
 
+  -- the first loop of US
+  pub clear-steppable : {marks₁ : List ℕ} → Zeros marks₁ → length marks₁ ≡ length marks → m ≡ 1
+      → Steppable 0 cur₁ g l₁ gl₁ st₁ rd₁ lo₁ bt₁ tp₁ gb₁ hi₁ seen marks₁ out 0
+  clear-steppable z e n = steps-low (omega (arith, n)) (omega arith) (first-steppable z e)
+
   -- one run
-  pub one-way : {r : ℕ} {t l′ gl′ st′ rd′ pc′ wt′ bt′ tp′ gb′ hi′ seen′ marks′ out′ : List ℕ}
-      → Finished m cur₁ g 0 out r t l′ gl′ st′ rd′ pc′ wt′ bt′ tp′ gb′ hi′ seen′ marks′ out′ → m ≢ 1 → Solved m s g out r out′
+  pub one-way : {r : ℕ} {t l′ gl′ st′ rd′ lo′ bt′ tp′ gb′ hi′ seen′ marks′ out′ : List ℕ}
+      → Finished m cur₁ g 0 out r t l′ gl′ st′ rd′ lo′ bt′ tp′ gb′ hi′ seen′ marks′ out′ → m ≢ 1 → Solved m s g out r out′
   one-way f n =
       let f₁ = rw (b .state) at f in
       let p = f₁ .ran .moves in
@@ -69,13 +74,13 @@ module _ {m : ℕ} {s g : State} {cur l gl st rd pc wt bt tp gb hi seen marks ou
       }
 
   -- two runs
-  module _ {k : ℕ} {t l₂ gl₂ st₂ rd₂ pc₂ wt₂ bt₂ tp₂ gb₂ hi₂ seen₂ marks₂ out₂ : List ℕ}
-      (f : Finished 0 cur₁ g 0 out k t l₂ gl₂ st₂ rd₂ pc₂ wt₂ bt₂ tp₂ gb₂ hi₂ seen₂ marks₂ out₂) where
-    pub second-steppable : {marks₁ : List ℕ} → Zeros marks₁ → length marks₁ ≡ length marks → Steppable t g l₂ gl₂ st₂ rd₂ pc₂ wt₂ bt₂ tp₂ gb₂ hi₂ seen₂ marks₂ out₂ k
-    second-steppable z e = let q = first-steppable z e in ran-steppable (q .room) (q .count) (f .ran)
+  module _ {k : ℕ} {t l₂ gl₂ st₂ rd₂ lo₂ bt₂ tp₂ gb₂ hi₂ seen₂ marks₂ out₂ : List ℕ}
+      (f : Finished 0 cur₁ g 0 out k t l₂ gl₂ st₂ rd₂ lo₂ bt₂ tp₂ gb₂ hi₂ seen₂ marks₂ out₂) where
+    pub second-steppable : {marks₁ : List ℕ} → Zeros marks₁ → length marks₁ ≡ length marks → m ≡ 1 → Steppable 1 t g l₂ gl₂ st₂ rd₂ lo₂ bt₂ tp₂ gb₂ hi₂ seen₂ marks₂ out₂ k
+    second-steppable z e n = let q = clear-steppable z e n in steps-low (omega arith) (omega arith) (ran-steppable (q .room) (q .count) (f .ran))
 
-    pub two-way : {r : ℕ} {t′ l′ gl′ st′ rd′ pc′ wt′ bt′ tp′ gb′ hi′ seen′ marks′ out′ : List ℕ}
-        → Finished 1 t g k out₂ r t′ l′ gl′ st′ rd′ pc′ wt′ bt′ tp′ gb′ hi′ seen′ marks′ out′ → m ≡ 1 → Solved m s g out r out′
+    pub two-way : {r : ℕ} {t′ l′ gl′ st′ rd′ lo′ bt′ tp′ gb′ hi′ seen′ marks′ out′ : List ℕ}
+        → Finished 1 t g k out₂ r t′ l′ gl′ st′ rd′ lo′ bt′ tp′ gb′ hi′ seen′ marks′ out′ → m ≡ 1 → Solved m s g out r out′
     two-way h n =
         let f₁ = rw (b .state) at f in
         let p = f₁ .ran .moves in
@@ -96,9 +101,9 @@ module _ {m : ℕ} {s g : State} {cur l gl st rd pc wt bt tp gb hi seen marks ou
 
 -- ---- a list just long enough for the state
 
-module _ {m : ℕ} {s g : State} {cur l gl st rd pc wt bt tp gb hi seen marks out : List ℕ} (w : Plannable m s g cur l gl st rd pc wt bt tp gb hi seen marks out) where
+module _ {m : ℕ} {s g : State} {cur l gl st rd lo bt tp gb hi seen marks out : List ℕ} (w : Plannable m s g cur l gl st rd lo bt tp gb hi seen marks out) where
   pub state-fits : length s ≤ length cur
   state-fits = state-within (w .lists)
 
-  pub solvable : Solvable m s g (take (length s) cur) l gl st rd pc wt bt tp gb hi seen marks out
+  pub solvable : Solvable m s g (take (length s) cur) l gl st rd lo bt tp gb hi seen marks out
   solvable = record { method = w .method; start = startable (w .lists); room = w .room }

@@ -33,15 +33,15 @@ pub record Plans (m : ℕ) (s g : State) (space : List ℕ) (r : Planned) (space
   pub promise : (c d : ℕ) → r ≡ Made c d → (method : Method) → methodOf m ≡ some method → Promise method s g (moves (take (2 * c) space′))
 
 -- A method, what a run is lent, and room for the plan; the list for the state just long enough.
-pub record Solvable (m : ℕ) (s g : State) (cur l gl st rd pc wt bt tp gb hi seen marks out : List ℕ) : Type 0 where
+pub record Solvable (m : ℕ) (s g : State) (cur l gl st rd lo bt tp gb hi seen marks out : List ℕ) : Type 0 where
   pub method : IsMethod m
-  pub start : Startable s g cur l gl st rd pc wt bt tp gb hi seen marks
+  pub start : Startable s g cur l gl st rd lo bt tp gb hi seen marks
   pub room : 4 * length s ≤ length out
 
 -- The same with a list for the state that is long enough for any problem.
-pub record Plannable (m : ℕ) (s g : State) (cur l gl st rd pc wt bt tp gb hi seen marks out : List ℕ) : Type 0 where
+pub record Plannable (m : ℕ) (s g : State) (cur l gl st rd lo bt tp gb hi seen marks out : List ℕ) : Type 0 where
   pub method : IsMethod m
-  pub lists : Roomy s g cur l gl st rd pc wt bt tp gb hi seen marks
+  pub lists : Roomy s g cur l gl st rd lo bt tp gb hi seen marks
   pub room : 4 * length s ≤ length out
 
 -- The plan of the method is written from the front, and its length is answered.

@@ -40,8 +40,7 @@ pub fn plan(method: u16, initial: &[u16], goal: &[u16], out: &mut [u16]) -> Plan
     let mut wanted = [0u16; 4001];
     let mut stands = [0u16; 4001];
     let mut ready = [0u64; 65];
-    let mut perched = [0u64; 65];
-    let mut waiting = [0u64; 65];
+    let mut loose = [0u64; 65];
     let mut bottoms = [0u16; 4001];
     let mut tops = [0u16; 4001];
     let mut roots = [0u16; 4001];
@@ -57,8 +56,7 @@ pub fn plan(method: u16, initial: &[u16], goal: &[u16], out: &mut [u16]) -> Plan
         &mut wanted,
         &mut stands,
         &mut ready,
-        &mut perched,
-        &mut waiting,
+        &mut loose,
         &mut bottoms,
         &mut tops,
         &mut roots,
@@ -83,8 +81,7 @@ fn solve(
     wanted: &mut [u16],
     stands: &mut [u16],
     ready: &mut [u64],
-    perched: &mut [u64],
-    waiting: &mut [u64],
+    loose: &mut [u64],
     bottoms: &mut [u16],
     tops: &mut [u16],
     roots: &mut [u16],
@@ -93,7 +90,7 @@ fn solve(
     marks: &mut [u16],
     out: &mut [u16],
 ) -> usize
-    requires { ⌜ Plannable method (now initial) (now goal) (now cur) (now load) (now wanted) (now stands) (now ready) (now perched) (now waiting) (now bottoms) (now tops) (now roots) (now highs) (now seen) (now marks) (now out) ⌝ }
+    requires { ⌜ Plannable method (now initial) (now goal) (now cur) (now load) (now wanted) (now stands) (now ready) (now loose) (now bottoms) (now tops) (now roots) (now highs) (now seen) (now marks) (now out) ⌝ }
     ensures { λ r. ⌜ Solved method (now (initial .entry)) (now (goal .entry)) (now (out .entry)) r (now (out .exit)) ⌝ }
 {
     let n = initial.len();
@@ -106,8 +103,7 @@ fn solve(
         wanted,
         stands,
         ready,
-        perched,
-        waiting,
+        loose,
         bottoms,
         tops,
         roots,
@@ -128,8 +124,7 @@ fn solve_in(
     wanted: &mut [u16],
     stands: &mut [u16],
     ready: &mut [u64],
-    perched: &mut [u64],
-    waiting: &mut [u64],
+    loose: &mut [u64],
     bottoms: &mut [u16],
     tops: &mut [u16],
     roots: &mut [u16],
@@ -138,11 +133,12 @@ fn solve_in(
     marks: &mut [u16],
     out: &mut [u16],
 ) -> usize
-    requires { ⌜ Solvable method (now initial) (now goal) (now cur) (now load) (now wanted) (now stands) (now ready) (now perched) (now waiting) (now bottoms) (now tops) (now roots) (now highs) (now seen) (now marks) (now out) ⌝ }
+    requires { ⌜ Solvable method (now initial) (now goal) (now cur) (now load) (now wanted) (now stands) (now ready) (now loose) (now bottoms) (now tops) (now roots) (now highs) (now seen) (now marks) (now out) ⌝ }
     ensures { λ r. ⌜ Solved method (now (initial .entry)) (now (goal .entry)) (now (out .entry)) r (now (out .exit)) ⌝ }
 {
     problem::zero(marks);
     statuses::begin(
+        method,
         initial,
         goal,
         cur,
@@ -150,8 +146,7 @@ fn solve_in(
         wanted,
         stands,
         ready,
-        perched,
-        waiting,
+        loose,
         bottoms,
         tops,
         roots,
@@ -166,8 +161,7 @@ fn solve_in(
             wanted,
             stands,
             ready,
-            perched,
-            waiting,
+            loose,
             bottoms,
             tops,
             roots,
@@ -185,8 +179,7 @@ fn solve_in(
             wanted,
             stands,
             ready,
-            perched,
-            waiting,
+            loose,
             bottoms,
             tops,
             roots,
@@ -205,8 +198,7 @@ fn solve_in(
         wanted,
         stands,
         ready,
-        perched,
-        waiting,
+        loose,
         bottoms,
         tops,
         roots,

@@ -16,8 +16,8 @@ use Rattle.runs.specs.Runs.{Steppable, Stepped, Ran, Finished}
 use Rattle.choices.specs.Choices.{stepOf}
 use Rattle.runs.proofs.RunningLaws.{running-begin, running-next, pair-written}
 
-pub ran-begin : (kind : ℕ) {s g : State} {l gl st rd pc wt bt tp gb hi seen marks out : List ℕ} {k : ℕ} → Steppable s g l gl st rd pc wt bt tp gb hi seen marks out k
-    → Ran kind s g k out k s l gl st rd pc wt bt tp gb hi seen marks out
+pub ran-begin : (kind : ℕ) {s g : State} {l gl st rd lo bt tp gb hi seen marks out : List ℕ} {k : ℕ} → Steppable kind s g l gl st rd lo bt tp gb hi seen marks out k
+    → Ran kind s g k out k s l gl st rd lo bt tp gb hi seen marks out
 ran-begin kind {s} {g} {k = k} w =
     let r = running-begin (stepOf kind g) s in
     record {
@@ -31,10 +31,10 @@ ran-begin kind {s} {g} {k = k} w =
       visits = w .visits;
     }
 
-module _ {kind : ℕ} {s g : State} {k₀ : ℕ} {out₀ : List ℕ} {k : ℕ} {t l gl st rd pc wt bt tp gb hi seen marks out : List ℕ}
+module _ {kind : ℕ} {s g : State} {k₀ : ℕ} {out₀ : List ℕ} {k : ℕ} {t l gl st rd lo bt tp gb hi seen marks out : List ℕ}
     (room : 2 * k₀ + 2 * measure s g ≤ length out₀) (small : k₀ + measure s g < 65535)
-    (w : Ran kind s g k₀ out₀ k t l gl st rd pc wt bt tp gb hi seen marks out) where
-  pub ran-steppable : Steppable t g l gl st rd pc wt bt tp gb hi seen marks out k
+    (w : Ran kind s g k₀ out₀ k t l gl st rd lo bt tp gb hi seen marks out) where
+  pub ran-steppable : Steppable kind t g l gl st rd lo bt tp gb hi seen marks out k
   ran-steppable =
       record {
         kept = w .kept;
@@ -43,9 +43,9 @@ module _ {kind : ℕ} {s g : State} {k₀ : ℕ} {out₀ : List ℕ} {k : ℕ} {
         count = omega (arith, small, w .count, w .spent);
       }
 
-  module _ {r : ℕ} {t′ l′ st′ rd′ pc′ wt′ bt′ tp′ hi′ seen′ marks′ out′ : List ℕ}
-      (q : Stepped kind t g out k r t′ l′ gl st′ rd′ pc′ wt′ bt′ tp′ gb hi′ seen′ marks′ out′) where
-    pub ran-next : r ≢ 0 → Ran kind s g k₀ out₀ (k + 1) t′ l′ gl st′ rd′ pc′ wt′ bt′ tp′ gb hi′ seen′ marks′ out′
+  module _ {r : ℕ} {t′ l′ st′ rd′ lo′ bt′ tp′ hi′ seen′ marks′ out′ : List ℕ}
+      (q : Stepped kind t g out k r t′ l′ gl st′ rd′ lo′ bt′ tp′ gb hi′ seen′ marks′ out′) where
+    pub ran-next : r ≢ 0 → Ran kind s g k₀ out₀ (k + 1) t′ l′ gl st′ rd′ lo′ bt′ tp′ gb hi′ seen′ marks′ out′
     ran-next n =
         let m = q .moved n in
         let x = m .0 in
@@ -71,7 +71,7 @@ module _ {kind : ℕ} {s g : State} {k₀ : ℕ} {out₀ : List ℕ} {k : ℕ} {
     pub ran-falls : r ≢ 0 → measure t′ g < measure t g
     ran-falls n = let m = q .moved n in omega (arith, moves-measure (w .kept .known .problem) (m .4), ap (λ u. measure u g) (m .2))
 
-    pub ran-end : r ≡ 0 → Finished kind s g k₀ out₀ k t′ l′ gl st′ rd′ pc′ wt′ bt′ tp′ gb hi′ seen′ marks′ out′
+    pub ran-end : r ≡ 0 → Finished kind s g k₀ out₀ k t′ l′ gl st′ rd′ lo′ bt′ tp′ gb hi′ seen′ marks′ out′
     ran-end z =
         let m = q .stopped z in
         record {

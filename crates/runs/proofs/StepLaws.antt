@@ -19,12 +19,12 @@ go-is : (b x : ℕ) → b ≢ 0 → asStep b x ≡ go b x
 go-is zero x n = absurd (n refl)
 go-is (suc b) x n = refl
 
-module _ {s g : State} {l gl st rd pc wt bt tp gb hi seen marks out : List ℕ} {k : ℕ} (w : Steppable s g l gl st rd pc wt bt tp gb hi seen marks out k) where
-  pub pickable : Pickable s g l gl st rd pc wt bt tp gb hi seen marks k
+module _ {kind : ℕ} {s g : State} {l gl st rd lo bt tp gb hi seen marks out : List ℕ} {k : ℕ} (w : Steppable kind s g l gl st rd lo bt tp gb hi seen marks out k) where
+  pub pickable : Pickable kind s g l gl st rd lo bt tp gb hi seen marks k
   pickable = record { kept = w .kept; visits = w .visits; count = omega (arith, w .count) }
 
-  module _ {kind : ℕ} {seen′ marks′ : List ℕ} {r : Picked} (p : Picks kind s g seen′ marks′ k r) where
-    pub stop-way : r .block ≡ 0 → Stepped kind s g out k 0 s l gl st rd pc wt bt tp gb hi seen′ marks′ out
+  module _ {seen′ marks′ : List ℕ} {r : Picked} (p : Picks kind s g seen′ marks′ k r) where
+    pub stop-way : r .block ≡ 0 → Stepped kind s g out k 0 s l gl st rd lo bt tp gb hi seen′ marks′ out
     stop-way z =
         record {
           kept = w .kept;
@@ -34,7 +34,7 @@ module _ {s g : State} {l gl st rd pc wt bt tp gb hi seen marks out : List ℕ} 
         }
 
     module _ (n : r .block ≢ 0) where
-      pub turnable : Turnable s g l gl st rd pc wt bt tp gb hi (r .block) (r .dest)
+      pub turnable : Turnable kind s g l gl st rd lo bt tp gb hi (r .block) (r .dest)
       turnable = record { kept = w .kept; move = p .move n }
 
       -- a move takes from the measure, so there is room for its pair
@@ -46,8 +46,8 @@ module _ {s g : State} {l gl st rd pc wt bt tp gb hi seen marks out : List ℕ} 
           let m = moves-legal (w .kept .known .problem) (p .move n) in
           (omega (arith, w .room, falls), omega (arith, m .block .high, w .kept .known .small), omega (arith, m .inside, w .kept .known .small))
 
-      pub move-way : {t l′ st′ rd′ pc′ wt′ bt′ tp′ hi′ out′ : List ℕ} → Turned s g (r .block) (r .dest) t l′ gl st′ rd′ pc′ wt′ bt′ tp′ gb hi′
-          → out′ ≡ set (set out (2 * k) (r .block)) (2 * k + 1) (r .dest) → Stepped kind s g out k (r .block) t l′ gl st′ rd′ pc′ wt′ bt′ tp′ gb hi′ seen′ marks′ out′
+      pub move-way : {t l′ st′ rd′ lo′ bt′ tp′ hi′ out′ : List ℕ} → Turned kind s g (r .block) (r .dest) t l′ gl st′ rd′ lo′ bt′ tp′ gb hi′
+          → out′ ≡ set (set out (2 * k) (r .block)) (2 * k + 1) (r .dest) → Stepped kind s g out k (r .block) t l′ gl st′ rd′ lo′ bt′ tp′ gb hi′ seen′ marks′ out′
       move-way {t} u o =
           let long : length t ≡ length s = ap length (u .state) ∙ length-put s (r .block) (r .dest) in
           record {

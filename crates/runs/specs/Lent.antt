@@ -8,15 +8,14 @@ use Rattle.blocks.specs.Position.{Accepted}
 use Rattle.statuses.specs.Kept.{Beginnable}
 
 -- Every list is long enough for any problem.
-pub record Roomy (s g : State) (cur l gl st rd pc wt bt tp gb hi seen marks : List ℕ) : Type 0 where
+pub record Roomy (s g : State) (cur l gl st rd lo bt tp gb hi seen marks : List ℕ) : Type 0 where
   pub problem : Accepted s g
   pub state-room : 4000 ≤ length cur
   pub load-room : 4001 ≤ length l
   pub wanted-room : 4001 ≤ length gl
   pub stand-room : 4001 ≤ length st
   pub ready-size : length rd ≡ 65
-  pub perched-size : length pc ≡ 65
-  pub waiting-size : length wt ≡ 65
+  pub loose-size : length lo ≡ 65
   pub bottom-room : 4001 ≤ length bt
   pub top-room : 4001 ≤ length tp
   pub root-room : 4001 ≤ length gb
@@ -25,7 +24,7 @@ pub record Roomy (s g : State) (cur l gl st rd pc wt bt tp gb hi seen marks : Li
   pub mark-room : 4001 ≤ length marks
 
 -- The same, with the list for the state just long enough.
-pub record Startable (s g : State) (cur l gl st rd pc wt bt tp gb hi seen marks : List ℕ) : Type 0 where
-  pub begin : Beginnable s g cur l gl st rd pc wt bt tp gb hi
+pub record Startable (s g : State) (cur l gl st rd lo bt tp gb hi seen marks : List ℕ) : Type 0 where
+  pub begin : Beginnable s g cur l gl st rd lo bt tp gb hi
   pub seen-room : 4000 ≤ length seen
   pub mark-room : 4001 ≤ length marks

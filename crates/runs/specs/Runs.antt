@@ -15,31 +15,31 @@ use Rattle.statuses.specs.Kept.{Kept}
 use Rattle.choices.specs.Choices.{stepOf, Marks}
 
 -- One step of a run can be made: there is room for all pairs that the measure still allows.
-pub record Steppable (s g : State) (l gl st rd pc wt bt tp gb hi seen marks out : List ℕ) (k : ℕ) : Type 0 where
-  pub kept : Kept s g l gl st rd pc wt bt tp gb hi
+pub record Steppable (kind : ℕ) (s g : State) (l gl st rd lo bt tp gb hi seen marks out : List ℕ) (k : ℕ) : Type 0 where
+  pub kept : Kept kind s g l gl st rd lo bt tp gb hi
   pub visits : Marks s seen marks k
   pub room : 2 * k + 2 * measure s g ≤ length out
   pub count : k + measure s g < 65535
 
 -- The step: none, with nothing changed, or a move, written as the k-th pair.
-pub record Stepped (kind : ℕ) (s g : State) (out : List ℕ) (k r : ℕ) (t l gl st rd pc wt bt tp gb hi seen marks out′ : List ℕ) : Type 0 where
-  pub kept : Kept t g l gl st rd pc wt bt tp gb hi
+pub record Stepped (kind : ℕ) (s g : State) (out : List ℕ) (k r : ℕ) (t l gl st rd lo bt tp gb hi seen marks out′ : List ℕ) : Type 0 where
+  pub kept : Kept kind t g l gl st rd lo bt tp gb hi
   pub visits : Marks t seen marks (suc k)
   pub stopped : r ≡ 0 → (stepOf kind g s ≡ stop) × (t ≡ s) × (out′ ≡ out) × Marks t seen marks k
   pub moved : r ≢ 0 → (x : ℕ) × (stepOf kind g s ≡ go r x) × (t ≡ put s r x) × (out′ ≡ set (set out (2 * k) r) (2 * k + 1) x) × Moves s g r x
 
 -- A run from s, with k₀ pairs written before it: the moves made so far, the state reached, and what is left of the measure.
-pub record Ran (kind : ℕ) (s g : State) (k₀ : ℕ) (out₀ : List ℕ) (k : ℕ) (t l gl st rd pc wt bt tp gb hi seen marks out : List ℕ) : Type 0 where
+pub record Ran (kind : ℕ) (s g : State) (k₀ : ℕ) (out₀ : List ℕ) (k : ℕ) (t l gl st rd lo bt tp gb hi seen marks out : List ℕ) : Type 0 where
   pub moves : Plan
   pub end : t ≡ after s moves
   pub reached : (j : ℕ) → iterate (stepOf kind g) (length moves + j) s ≡ precede moves (iterate (stepOf kind g) j t)
   pub count : k ≡ k₀ + length moves
   pub written : out ≡ sets out₀ (2 * k₀) (flat moves)
   pub spent : length moves + measure t g ≤ measure s g
-  pub kept : Kept t g l gl st rd pc wt bt tp gb hi
+  pub kept : Kept kind t g l gl st rd lo bt tp gb hi
   pub visits : Marks t seen marks k
 
 -- A run that has ended.
-pub record Finished (kind : ℕ) (s g : State) (k₀ : ℕ) (out₀ : List ℕ) (k : ℕ) (t l gl st rd pc wt bt tp gb hi seen marks out : List ℕ) : Type 0 where
-  pub ran : Ran kind s g k₀ out₀ k t l gl st rd pc wt bt tp gb hi seen marks out
+pub record Finished (kind : ℕ) (s g : State) (k₀ : ℕ) (out₀ : List ℕ) (k : ℕ) (t l gl st rd lo bt tp gb hi seen marks out : List ℕ) : Type 0 where
+  pub ran : Ran kind s g k₀ out₀ k t l gl st rd lo bt tp gb hi seen marks out
   pub ended : stepOf kind g t ≡ stop

@@ -13,8 +13,7 @@ pub fn run(
     wanted: &[u16],
     stands: &mut [u16],
     ready: &mut [u64],
-    perched: &mut [u64],
-    waiting: &mut [u64],
+    loose: &mut [u64],
     bottoms: &mut [u16],
     tops: &mut [u16],
     roots: &[u16],
@@ -24,8 +23,8 @@ pub fn run(
     out: &mut [u16],
     k: usize,
 ) -> usize
-    requires { ⌜ Steppable (now cur) (now goal) (now load) (now wanted) (now stands) (now ready) (now perched) (now waiting) (now bottoms) (now tops) (now roots) (now highs) (now seen) (now marks) (now out) k ⌝ }
-    ensures { λ r. ⌜ Finished kind (now (cur .entry)) (now (goal .entry)) k (now (out .entry)) r (now (cur .exit)) (now (load .exit)) (now (wanted .entry)) (now (stands .exit)) (now (ready .exit)) (now (perched .exit)) (now (waiting .exit)) (now (bottoms .exit)) (now (tops .exit)) (now (roots .entry)) (now (highs .exit)) (now (seen .exit)) (now (marks .exit)) (now (out .exit)) ⌝ }
+    requires { ⌜ Steppable kind (now cur) (now goal) (now load) (now wanted) (now stands) (now ready) (now loose) (now bottoms) (now tops) (now roots) (now highs) (now seen) (now marks) (now out) k ⌝ }
+    ensures { λ r. ⌜ Finished kind (now (cur .entry)) (now (goal .entry)) k (now (out .entry)) r (now (cur .exit)) (now (load .exit)) (now (wanted .entry)) (now (stands .exit)) (now (ready .exit)) (now (loose .exit)) (now (bottoms .exit)) (now (tops .exit)) (now (roots .entry)) (now (highs .exit)) (now (seen .exit)) (now (marks .exit)) (now (out .exit)) ⌝ }
 {
     let mut count = k;
     loop {
@@ -37,8 +36,7 @@ pub fn run(
             wanted,
             stands,
             ready,
-            perched,
-            waiting,
+            loose,
             bottoms,
             tops,
             roots,
@@ -64,8 +62,7 @@ fn step(
     wanted: &[u16],
     stands: &mut [u16],
     ready: &mut [u64],
-    perched: &mut [u64],
-    waiting: &mut [u64],
+    loose: &mut [u64],
     bottoms: &mut [u16],
     tops: &mut [u16],
     roots: &[u16],
@@ -75,8 +72,8 @@ fn step(
     out: &mut [u16],
     k: usize,
 ) -> usize
-    requires { ⌜ Steppable (now cur) (now goal) (now load) (now wanted) (now stands) (now ready) (now perched) (now waiting) (now bottoms) (now tops) (now roots) (now highs) (now seen) (now marks) (now out) k ⌝ }
-    ensures { λ r. ⌜ Stepped kind (now (cur .entry)) (now (goal .entry)) (now (out .entry)) k r (now (cur .exit)) (now (load .exit)) (now (wanted .entry)) (now (stands .exit)) (now (ready .exit)) (now (perched .exit)) (now (waiting .exit)) (now (bottoms .exit)) (now (tops .exit)) (now (roots .entry)) (now (highs .exit)) (now (seen .exit)) (now (marks .exit)) (now (out .exit)) ⌝ }
+    requires { ⌜ Steppable kind (now cur) (now goal) (now load) (now wanted) (now stands) (now ready) (now loose) (now bottoms) (now tops) (now roots) (now highs) (now seen) (now marks) (now out) k ⌝ }
+    ensures { λ r. ⌜ Stepped kind (now (cur .entry)) (now (goal .entry)) (now (out .entry)) k r (now (cur .exit)) (now (load .exit)) (now (wanted .entry)) (now (stands .exit)) (now (ready .exit)) (now (loose .exit)) (now (bottoms .exit)) (now (tops .exit)) (now (roots .entry)) (now (highs .exit)) (now (seen .exit)) (now (marks .exit)) (now (out .exit)) ⌝ }
 {
     let picked = choices::pick(
         kind,
@@ -86,8 +83,7 @@ fn step(
         wanted,
         stands,
         ready,
-        perched,
-        waiting,
+        loose,
         bottoms,
         tops,
         roots,
@@ -102,14 +98,14 @@ fn step(
         return 0;
     }
     statuses::turn(
+        kind,
         cur,
         goal,
         load,
         wanted,
         stands,
         ready,
-        perched,
-        waiting,
+        loose,
         bottoms,
         tops,
         roots,

@@ -1,5 +1,5 @@
--- The start of a run: the lists of the blocks from an accepted problem, the towers from these, and all of it together. Assumes nothing.
-use Prim.Native.Nat.{ℕ, zero, suc, _≤_}
+-- The start of a run: the lists of the blocks from an accepted problem, the towers and the sets from these, and all of it together. Assumes nothing.
+use Prim.Native.Nat.{ℕ, zero, suc, _≤_, _<_}
 use mathlib.Core.Path.{_≡_, refl, sym, ap, _∙_}
 use mathlib.Core.Logic.{_≢_}
 use mathlib.Core.Bool.{true, not, cond}
@@ -18,8 +18,8 @@ use Rattle.blocks.proofs.QuestionLaws.{proper-yes}
 use Rattle.problem.specs.Known.{Loads, Fillable, Filled, Climbable, Standings}
 use Rattle.towers.specs.Towers.{Stands, Highs, Climbed}
 use Rattle.towers.specs.Towers as towers
-use Rattle.statuses.specs.Kept.{Sets, Settable, Beginnable, Begun}
-use Rattle.statuses.specs.Begins.{Listable, Listed, Towerable, Towered}
+use Rattle.statuses.specs.Kept.{Sets, Settable, Kept, Traced, Beginnable, Begun}
+use Rattle.statuses.specs.Begins.{Listable, Listed, Towerable, Fittable}
 
 -- ---- the lists of the blocks
 
@@ -126,12 +126,36 @@ module _ {s g : State} {l gl st bt tp gb hi : List ℕ} (w : Towerable s g l gl 
         room = omega (arith, w .known .problem .same, f .tops .room);
       }
 
-pub towered : {s g : State} {bt tp gb h hi : List ℕ} → towers.Filled s bt tp → towers.Filled g gb h → Highs s g hi → Towered s g bt tp gb hi
-towered e f k = record { bottoms = e .bottoms; tops = e .tops; roots = f .bottoms; highs = k }
+  pub towered : {kind : ℕ} {bt′ tp′ gb′ h hi′ : List ℕ} → towers.Filled s bt′ tp′ → towers.Filled g gb′ h → Highs s g hi′ → Traced kind s g bt′ tp′ gb′ hi′
+  towered e f k = record { towers = λ _. record { bottoms = e .bottoms; tops = e .tops; roots = f .bottoms; highs = k } }
+
+-- for the other kinds nothing is asked
+pub untraced : {kind : ℕ} (s g : State) (bt tp gb hi : List ℕ) → kind < 3 → Traced kind s g bt tp gb hi
+untraced s g bt tp gb hi h = record { towers = λ deep. absurd (omega (arith, deep)) }
+
+-- ---- what a run keeps beside the blocks
+
+module _ {s g : State} {l gl st rd lo bt tp gb hi : List ℕ} (w : Fittable s g l gl st rd lo bt tp gb hi) where
+  pub towerable : Towerable s g l gl st bt tp gb hi
+  towerable =
+      record {
+        known = w .known;
+        goal-loads = w .goal-loads;
+        bottom-room = w .bottom-room;
+        top-room = w .top-room;
+        root-room = w .root-room;
+        high-room = w .high-room;
+      }
+
+  pub settable : Settable s g l st rd lo
+  settable = record { known = w .known; ready-size = w .ready-size; loose-size = w .loose-size }
+
+  pub fitted : {kind : ℕ} {rd′ lo′ bt′ tp′ gb′ hi′ : List ℕ} → Traced kind s g bt′ tp′ gb′ hi′ → Sets kind s g rd′ lo′ → Kept kind s g l gl st rd′ lo′ bt′ tp′ gb′ hi′
+  fitted t q = record { known = w .known; goal-loads = w .goal-loads; sets = q; towers = t .towers }
 
 -- ---- all
 
-module _ {s g : State} {cur l gl st rd pc wt bt tp gb hi : List ℕ} (w : Beginnable s g cur l gl st rd pc wt bt tp gb hi) where
+module _ {s g : State} {cur l gl st rd lo bt tp gb hi : List ℕ} (w : Beginnable s g cur l gl st rd lo bt tp gb hi) where
   pub listable : Listable s g cur l gl st
   listable =
       let small = w .problem .small in
@@ -144,34 +168,20 @@ module _ {s g : State} {cur l gl st rd pc wt bt tp gb hi : List ℕ} (w : Beginn
       }
 
   module _ {cur′ l′ gl′ st′ : List ℕ} (k : Listed s g cur′ l′ gl′ st′) where
-    pub towerable : Towerable s g l′ gl′ st′ bt tp gb hi
-    towerable =
+    pub fittable : Fittable s g l′ gl′ st′ rd lo bt tp gb hi
+    fittable =
         let small = w .problem .small in
         record {
           known = k .known;
           goal-loads = k .goal-loads;
+          ready-size = w .ready-size;
+          loose-size = w .loose-size;
           bottom-room = omega (arith, small, w .bottom-room);
           top-room = omega (arith, small, w .top-room);
           root-room = omega (arith, small, w .root-room);
           high-room = omega (arith, small, w .high-room);
         }
 
-    pub settable : Settable s g l′ st′ rd pc wt
-    settable = record { known = k .known; ready-size = w .ready-size; perched-size = w .perched-size; waiting-size = w .waiting-size }
-
-    pub begun : {rd′ pc′ wt′ bt′ tp′ gb′ hi′ : List ℕ} → Towered s g bt′ tp′ gb′ hi′ → Sets s g rd′ pc′ wt′
-        → Begun s g cur′ l′ gl′ st′ rd′ pc′ wt′ bt′ tp′ gb′ hi′
-    begun t q =
-        record {
-          state = k .state;
-          kept =
-              record {
-                known = k .known;
-                goal-loads = k .goal-loads;
-                sets = q;
-                bottoms = t .bottoms;
-                tops = t .tops;
-                roots = t .roots;
-                highs = t .highs;
-              };
-        }
+    pub begun : {kind : ℕ} {rd′ lo′ bt′ tp′ gb′ hi′ : List ℕ} → Kept kind s g l′ gl′ st′ rd′ lo′ bt′ tp′ gb′ hi′
+        → Begun kind s g cur′ l′ gl′ st′ rd′ lo′ bt′ tp′ gb′ hi′
+    begun q = record { state = k .state; kept = q }

@@ -1,8 +1,10 @@
 -- A move of a from u changes the tests of four blocks at most: a, u, and the blocks that go onto these in the goal (document 001, section 3.4).
 -- Assumes nothing.
 use Prim.Native.Nat.{ℕ}
-use mathlib.Core.Path.{_≡_, sym, ap, _∙_, subst}
+use mathlib.Core.Path.{_≡_, sym, ap, ap₂, _∙_, subst}
+use mathlib.Core.Bool.{cond}
 use mathlib.Core.Logic.{_⊎_, inl, inr, _≢_}
+use lib.Dec.{ltb}
 use Rattle.blocks.specs.State.{State, support, put, Clear}
 use Rattle.blocks.specs.Position.{Problem, InPosition}
 use Rattle.blocks.specs.Move.{Legal}
@@ -14,6 +16,7 @@ use Rattle.blocks.proofs.FrameLaws.{position-frame, position-unframe, clear-fra
 use Rattle.blocks.proofs.ClearLaws.{clear-table}
 use Rattle.blocks.proofs.PositionLaws.{position-table, waiting-reflects, perched-reflects, ready-reflects, ready-constructive}
 use Rattle.blocks.proofs.StepLaws.{moves-legal}
+use Rattle.statuses.specs.Kept.{looseᵇ}
 
 module _ {s g : State} {a x : ℕ} (p : Problem s g) (m : Moves s g a x) where
   legal : Legal s a x
@@ -43,14 +46,17 @@ module _ {s g : State} {a x : ℕ} (p : Problem s g) (m : Moves s g a x) where
     waiting-from : Waiting (put s a x) g b → Waiting s g b
     waiting-from w = (λ i. w .0 (position-frame legal other i), clear-before b (λ e. absurd (beside e)) (w .1))
 
-    pub waiting-same : waitingᵇ s g b ≡ waitingᵇ (put s a x) g b
+    waiting-same : waitingᵇ s g b ≡ waitingᵇ (put s a x) g b
     waiting-same = reflects-same waiting-to waiting-from (waiting-reflects s g (p .initial) b) (waiting-reflects (put s a x) g (after .initial) b)
 
-    pub perched-same : perchedᵇ s g b ≡ perchedᵇ (put s a x) g b
+    perched-same : perchedᵇ s g b ≡ perchedᵇ (put s a x) g b
     perched-same =
         let e : support (put s a x) b ≡ support s b = support-put-other s a x b other in
         reflects-same (λ w. (waiting-to (w .0), λ z. w .1 (sym e ∙ z))) (λ w. (waiting-from (w .0), λ z. w .1 (e ∙ z)))
         (perched-reflects s g (p .initial) b) (perched-reflects (put s a x) g (after .initial) b)
+
+    pub loose-same : (kind : ℕ) → looseᵇ kind s g b ≡ looseᵇ kind (put s a x) g b
+    loose-same kind = ap₂ (λ t u. cond (ltb kind 3) t u) perched-same waiting-same
 
     -- the goal support is as clear and as well placed as before
     module _ (above : support g b ≢ a) (apart : support g b ≡ support s a → support s a ≡ 0) where

@@ -1,3 +1,4 @@
+pub mod LooseLaws
 pub mod ChangeLaws
 pub mod TestLaws
 pub mod RefreshLaws

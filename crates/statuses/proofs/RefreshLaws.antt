@@ -1,4 +1,4 @@
--- The sets after numbers were decided anew: one number in three sets, and the four blocks that a move can have changed. Assumes nothing.
+-- The sets after numbers were decided anew: one number in both, and the four blocks that a move can have changed. Assumes nothing.
 use Prim.Native.Nat.{ℕ, _≤_, _<_}
 use mathlib.Core.Path.{_≡_, sym, ap, _∙_}
 use mathlib.Core.Logic.{_⊎_, inl, inr, _≢_}
@@ -9,23 +9,32 @@ use lib.Dec.{eqb}
 use lib.ListN.{length, getD}
 use borrow.Author.Tests.{eq-eqb, ne-eqb}
 use Rattle.blocks.specs.State.{State, support}
-use Rattle.blocks.specs.Tests.{load, readyᵇ, perchedᵇ, waitingᵇ}
-use Rattle.blocks.proofs.Reflect.{same?, not-not, eqb-reflects}
+use Rattle.blocks.specs.Tests.{load, readyᵇ}
+use Rattle.blocks.proofs.Reflect.{same?}
 use Rattle.blocks.proofs.ClearLaws.{load-block, load-is}
 use Rattle.numberset.specs.Members.{member, Valid, Assigned}
-use Rattle.statuses.specs.Kept.{Holds, Sets, Refreshable, Redone, Refreshed, Nearly, Moving}
+use Rattle.statuses.specs.Kept.{looseᵇ, Sets, Testable, Offerable, Refreshable, Redone, Refreshed, Moving}
 
 -- ---- one number
 
-pub number-low : {s g : State} {l st rd pc wt : List ℕ} {b : ℕ} → Refreshable s g l st rd pc wt b → b < 4096
-number-low w = omega (arith, w .testable .high, w .testable .known .small)
+pub number-low : {s g : State} {l st : List ℕ} {b : ℕ} → Testable s g l st b → b < 4096
+number-low w = omega (arith, w .high, w .known .small)
 
-redone : {l l′ : List ℕ} {b : ℕ} {r t : Bool} → r ≡ t → Assigned l b r l′ → Redone l b t l′
+pub redone : {l l′ : List ℕ} {b : ℕ} {r t : Bool} → r ≡ t → Assigned l b r l′ → Redone l b t l′
 redone {l} {l′} {b} e w = record { valid = w .valid; members = λ y h. w .members y h ∙ ap (λ u. cond (eqb y b) u (member l y)) e }
 
-pub refreshed : {s g : State} {b : ℕ} {rd pc wt rd′ pc′ wt′ : List ℕ} {t u v : Bool} → t ≡ readyᵇ s g b → Assigned rd b t rd′
-    → u ≡ perchedᵇ s g b → Assigned pc b u pc′ → v ≡ waitingᵇ s g b → Assigned wt b v wt′ → Refreshed s g b rd pc wt rd′ pc′ wt′
-refreshed e x f y h z = record { ready = redone e x; perched = redone f y; waiting = redone h z }
+pub offer-low : {s g : State} {l st rd : List ℕ} {b : ℕ} → Offerable s g l st rd b → b < 4096
+offer-low w = number-low (w .testable)
+
+pub refresh-low : {s g : State} {l st rd lo : List ℕ} {b : ℕ} → Refreshable s g l st rd lo b → b < 4096
+refresh-low w = number-low (w .testable)
+
+pub refresh-offer : {s g : State} {l st rd lo : List ℕ} {b : ℕ} → Refreshable s g l st rd lo b → Offerable s g l st rd b
+refresh-offer w = record { testable = w .testable; ready = w .ready }
+
+pub refreshed : {kind : ℕ} {s g : State} {b : ℕ} {rd lo rd′ lo′ : List ℕ} {t : Bool} → Redone rd b (readyᵇ s g b) rd′ → t ≡ looseᵇ kind s g b → Assigned lo b t lo′
+    → Refreshed kind s g b rd lo rd′ lo′
+refreshed x f y = record { ready = x; loose = redone f y }
 
 pub same-size : {l l′ : List ℕ} → Valid l → Valid l′ → length l′ ≡ length l
 same-size v w = w .size ∙ sym (v .size)
@@ -41,7 +50,7 @@ again {l} {l′} {b} test w y h f = w .members y h ∙ by (same? y b)
 
 -- ---- the four blocks of a move of a from u: c and d go onto a and u in the goal
 
-module _ {s g : State} {l gl st rd pc wt : List ℕ} {a u : ℕ} (w : Moving s g l gl st rd pc wt a u) where
+module _ {kind : ℕ} {s g : State} {l gl st rd lo : List ℕ} {a u : ℕ} (w : Moving kind s g l gl st rd lo a u) where
   same : length g ≡ length s
   same = w .known .problem .same
 
@@ -67,41 +76,43 @@ module _ {s g : State} {l gl st rd pc wt : List ℕ} {a u : ℕ} (w : Moving s g
     onto-is : (y : ℕ) → support g y ≡ k → k ≢ 0 → y ≡ e
     onto-is y r n = sym (onto-load n ∙ load-is g (w .known .problem .goal) k y n r)
 
-  pub first : Refreshable s g l st rd pc wt a
-  first =
-      record {
-        testable = record { known = w .known; high = w .moved-high };
-        ready = w .ready .valid;
-        perched = w .perched .valid;
-        waiting = w .waiting .valid;
-      }
+  pub first : Refreshable s g l st rd lo a
+  first = record { testable = record { known = w .known; high = w .moved-high }; ready = w .ready .valid; loose = w .loose .valid }
 
-  pub next : {b k : ℕ} {r₀ p₀ w₀ r₁ p₁ w₁ : List ℕ} → Refreshed s g b r₀ p₀ w₀ r₁ p₁ w₁ → k ≤ length s → Refreshable s g l st r₁ p₁ w₁ k
-  next f h =
-      record {
-        testable = record { known = w .known; high = h };
-        ready = f .ready .valid;
-        perched = f .perched .valid;
-        waiting = f .waiting .valid;
-      }
+  pub may-offer : {b k : ℕ} {r₀ l₀ r₁ l₁ : List ℕ} → Refreshed kind s g b r₀ l₀ r₁ l₁ → k ≤ length s → Offerable s g l st r₁ k
+  may-offer f h = record { testable = record { known = w .known; high = h }; ready = f .ready .valid }
 
-  module _ {c d : ℕ} (onto-a : c ≡ cond (eqb a 0) 0 (getD gl a 0)) (onto-u : d ≡ cond (eqb u 0) 0 (getD gl u 0)) where
-    four : {l₀ l₁ l₂ l₃ l₄ : List ℕ} {test : ℕ → Bool} → Nearly l₀ test g a u → Redone l₀ a (test a) l₁ → Redone l₁ u (test u) l₂
-        → Redone l₂ c (test c) l₃ → Redone l₃ d (test d) l₄ → Holds l₄ test
-    four {test} near r₁ r₂ r₃ r₄ =
+  pub second : {b c : ℕ} {r₀ l₀ r₁ l₁ r₂ : List ℕ} {t : Bool} → Refreshed kind s g b r₀ l₀ r₁ l₁ → Redone r₁ c t r₂ → Refreshable s g l st r₂ l₁ u
+  second f o = record { testable = record { known = w .known; high = w .old-high }; ready = o .valid; loose = f .loose .valid }
+
+  module _ {c : ℕ} (onto-a : c ≡ cond (eqb a 0) 0 (getD gl a 0)) {r₁ l₁ r₂ : List ℕ} (f : Refreshed kind s g a rd lo r₁ l₁) (o : Redone r₁ c (readyᵇ s g c) r₂) where
+    -- nothing but the four blocks is left to decide
+    apart : (y : ℕ) → y ≢ c → support g y ≢ a
+    apart y n e = n (onto-is (w .moved-high) onto-a y e (λ z. omega (arith, z, w .moved)))
+
+    -- from the table: a, and what goes onto it
+    pub two : u ≡ 0 → Sets kind s g r₂ l₁
+    two z =
         record {
-          valid = r₄ .valid;
-          same = λ y h. again test r₄ y h (λ nd. again test r₃ y h (λ nc. again test r₂ y h (λ nu. again test r₁ y h (λ na.
-              near .same y h na nu
-              (λ e. nc (onto-is (w .moved-high) onto-a y e (λ z. omega (arith, z, w .moved))))
-              (λ e. not-not (eqb-reflects u 0) (λ n. nd (onto-is (w .old-high) onto-u y e n)))))));
+          ready = record {
+            valid = o .valid;
+            same = λ y h. again (readyᵇ s g) o y h (λ nc. again (readyᵇ s g) (f .ready) y h (λ na. w .ready .same y h na (λ _. z) (apart y nc) (λ _. z)));
+          };
+          loose = record { valid = f .loose .valid; same = λ y h. again (looseᵇ kind s g) (f .loose) y h (λ na. w .loose .same y h na (λ _. z)) };
         }
 
-    pub all-four : {r₁ p₁ w₁ r₂ p₂ w₂ r₃ p₃ w₃ r₄ p₄ w₄ : List ℕ} → Refreshed s g a rd pc wt r₁ p₁ w₁ → Refreshed s g u r₁ p₁ w₁ r₂ p₂ w₂
-        → Refreshed s g c r₂ p₂ w₂ r₃ p₃ w₃ → Refreshed s g d r₃ p₃ w₃ r₄ p₄ w₄ → Sets s g r₄ p₄ w₄
-    all-four f₁ f₂ f₃ f₄ =
+    -- from a block u: also u, and what goes onto that
+    pub four : {d : ℕ} {r₃ l₃ r₄ : List ℕ} → d ≡ cond (eqb u 0) 0 (getD gl u 0) → u ≢ 0 → Refreshed kind s g u r₂ l₁ r₃ l₃ → Redone r₃ d (readyᵇ s g d) r₄
+        → Sets kind s g r₄ l₃
+    four onto-u n e q =
         record {
-          ready = four (w .ready) (f₁ .ready) (f₂ .ready) (f₃ .ready) (f₄ .ready);
-          perched = four (w .perched) (f₁ .perched) (f₂ .perched) (f₃ .perched) (f₄ .perched);
-          waiting = four (w .waiting) (f₁ .waiting) (f₂ .waiting) (f₃ .waiting) (f₄ .waiting);
+          ready = record {
+            valid = q .valid;
+            same = λ y h. again (readyᵇ s g) q y h (λ nd. again (readyᵇ s g) (e .ready) y h (λ nu. again (readyᵇ s g) o y h (λ nc. again (readyᵇ s g) (f .ready) y h (λ na.
+                w .ready .same y h na (λ same. absurd (nu same)) (apart y nc) (λ on. absurd (nd (onto-is (w .old-high) onto-u y on n)))))));
+          };
+          loose = record {
+            valid = e .loose .valid;
+            same = λ y h. again (looseᵇ kind s g) (e .loose) y h (λ nu. again (looseᵇ kind s g) (f .loose) y h (λ na. w .loose .same y h na (λ same. absurd (nu same))));
+          };
         }

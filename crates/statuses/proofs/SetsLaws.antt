@@ -1,4 +1,4 @@
--- Filling the three sets: up to the block b they hold their tests, and beyond it nothing; no number but a block passes a test. Assumes nothing.
+-- Filling the two sets: up to the block b they hold their tests, and beyond it nothing; no number but a block passes a test. Assumes nothing.
 use Prim.Native.Nat.{ℕ, _+_, _≤_, _<_}
 use mathlib.Core.Path.{_≡_, sym, ap, _∙_}
 use mathlib.Core.Logic.{_⊎_, inl, inr}
@@ -9,11 +9,12 @@ use lib.ListN.{length}
 use borrow.Author.Tests.{ne-eqb}
 use Rattle.blocks.specs.State.{State, Block}
 use Rattle.blocks.specs.Position.{Problem, Misplaced}
-use Rattle.blocks.specs.Tests.{readyᵇ, perchedᵇ, waitingᵇ}
+use Rattle.blocks.specs.Tests.{readyᵇ}
 use Rattle.blocks.proofs.Reflect.{Reflects, to-false, decided, leb-reflects}
 use Rattle.blocks.proofs.PositionLaws.{misplaced-block, ready-reflects, perched-reflects, waiting-reflects}
 use Rattle.numberset.specs.Members.{member, Valid, Empty}
-use Rattle.statuses.specs.Kept.{Known, Holds, Sets, Settable, Refreshable, Redone, Refreshed}
+use Rattle.statuses.specs.Kept.{looseᵇ, Known, Holds, Sets, Settable, Refreshable, Redone, Refreshed}
+use Rattle.statuses.proofs.LooseLaws.{loose-by}
 use Rattle.statuses.proofs.RefreshLaws.{again}
 
 -- ---- one set
@@ -47,16 +48,14 @@ module _ {s g : State} (p : Problem s g) (c : ℕ) (outside : ¬ Block s c) wher
   no-block : {A : Type 0} {t : Bool} → Reflects A t → (A → Misplaced s g c) → t ≡ false
   no-block r f = to-false r (λ x. outside (misplaced-block (p .same) (f x)))
 
-  no-ready : readyᵇ s g c ≡ false
+  pub no-ready : readyᵇ s g c ≡ false
   no-ready = no-block (ready-reflects s g p c) (λ r. r .misplaced)
 
-  no-perched : perchedᵇ s g c ≡ false
-  no-perched = no-block (perched-reflects s g (p .initial) c) (λ r. r .0 .0)
+  pub no-loose : (kind : ℕ) → looseᵇ kind s g c ≡ false
+  no-loose kind =
+      loose-by kind s g c (λ t. t ≡ false) (no-block (perched-reflects s g (p .initial) c) (λ r. r .0 .0)) (no-block (waiting-reflects s g (p .initial) c) (λ r. r .0))
 
-  no-waiting : waitingᵇ s g c ≡ false
-  no-waiting = no-block (waiting-reflects s g (p .initial) c) (λ r. r .0)
-
-table-outside : {s : State} → ¬ Block s 0
+pub table-outside : {s : State} → ¬ Block s 0
 table-outside b = omega (arith, b .low)
 
 high-outside : {s : State} (n c : ℕ) → n ≡ length s → n < c → ¬ Block s c
@@ -64,62 +63,54 @@ high-outside n c e h b = omega (arith, b .high)
 
 -- ---- the loop: the blocks up to b have been decided
 
-pub record Filling (s g : State) (l st : List ℕ) (n b : ℕ) (rd pc wt : List ℕ) : Type 0 where
+pub record Filling (kind : ℕ) (s g : State) (l st : List ℕ) (n b : ℕ) (rd lo : List ℕ) : Type 0 where
   pub all : n ≡ length s
   pub within : b ≤ n
   pub known : Known s g l st
   pub ready : Upto rd (readyᵇ s g) b
-  pub perched : Upto pc (perchedᵇ s g) b
-  pub waiting : Upto wt (waitingᵇ s g) b
+  pub loose : Upto lo (looseᵇ kind s g) b
 
-pub filling-begin : {s g : State} {l st rd pc wt r₁ p₁ w₁ : List ℕ} {n : ℕ} → Settable s g l st rd pc wt → Empty r₁ → Empty p₁ → Empty w₁ → n ≡ length s
-    → Filling s g l st n 0 r₁ p₁ w₁
-filling-begin w er ep ew e = record {
+pub filling-begin : {kind : ℕ} {s g : State} {l st rd lo r₁ l₁ : List ℕ} {n : ℕ} → Settable s g l st rd lo → Empty r₁ → Empty l₁ → n ≡ length s
+    → Filling kind s g l st n 0 r₁ l₁
+filling-begin {kind} w er el e = record {
   all = e;
   within = omega arith;
   known = w .known;
   ready = upto-begin (no-ready (w .known .problem) 0 table-outside) er;
-  perched = upto-begin (no-perched (w .known .problem) 0 table-outside) ep;
-  waiting = upto-begin (no-waiting (w .known .problem) 0 table-outside) ew;
+  loose = upto-begin (no-loose (w .known .problem) 0 table-outside kind) el;
 }
 
-module _ {s g : State} {l st rd pc wt : List ℕ} {n b : ℕ} (w : Filling s g l st n b rd pc wt) where
-  pub refreshable : b < n → Refreshable s g l st rd pc wt (b + 1)
+module _ {kind : ℕ} {s g : State} {l st rd lo : List ℕ} {n b : ℕ} (w : Filling kind s g l st n b rd lo) where
+  pub refreshable : b < n → Refreshable s g l st rd lo (b + 1)
   refreshable h = record {
     testable = record { known = w .known; high = omega (arith, w .all) };
     ready = w .ready .valid;
-    perched = w .perched .valid;
-    waiting = w .waiting .valid;
+    loose = w .loose .valid;
   }
 
   pub count-small : n ≤ 4000
   count-small = omega (arith, w .all, w .known .small)
 
-  pub filling-next : {rd′ pc′ wt′ : List ℕ} → b < n → Refreshed s g (b + 1) rd pc wt rd′ pc′ wt′ → Filling s g l st n (b + 1) rd′ pc′ wt′
+  pub filling-next : {rd′ lo′ : List ℕ} → b < n → Refreshed kind s g (b + 1) rd lo rd′ lo′ → Filling kind s g l st n (b + 1) rd′ lo′
   filling-next h r = record {
     all = w .all;
     within = omega arith;
     known = w .known;
     ready = upto-next (w .ready) (r .ready);
-    perched = upto-next (w .perched) (r .perched);
-    waiting = upto-next (w .waiting) (r .waiting);
+    loose = upto-next (w .loose) (r .loose);
   }
 
-  module _ {r₀ p₀ w₀ : List ℕ} (k : Settable s g l st r₀ p₀ w₀) where
+  module _ {r₀ l₀ : List ℕ} (k : Settable s g l st r₀ l₀) where
     pub ready-long : length rd ≡ length r₀
     ready-long = w .ready .valid .size ∙ sym (k .ready-size)
 
-    pub perched-long : length pc ≡ length p₀
-    perched-long = w .perched .valid .size ∙ sym (k .perched-size)
+    pub loose-long : length lo ≡ length l₀
+    loose-long = w .loose .valid .size ∙ sym (k .loose-size)
 
-    pub waiting-long : length wt ≡ length w₀
-    waiting-long = w .waiting .valid .size ∙ sym (k .waiting-size)
-
-  pub filling-end : n ≤ b → Sets s g rd pc wt
+  pub filling-end : n ≤ b → Sets kind s g rd lo
   filling-end h = record {
     ready = upto-end (w .ready) (λ c k. no-ready (w .known .problem) c (outside c k));
-    perched = upto-end (w .perched) (λ c k. no-perched (w .known .problem) c (outside c k));
-    waiting = upto-end (w .waiting) (λ c k. no-waiting (w .known .problem) c (outside c k));
+    loose = upto-end (w .loose) (λ c k. no-loose (w .known .problem) c (outside c k) kind);
   }
     where
       outside : (c : ℕ) → b < c → ¬ Block s c

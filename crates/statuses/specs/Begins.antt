@@ -1,4 +1,4 @@
--- The start of a run in two parts: the lists of the blocks, and those of the towers. Assumes nothing.
+-- The start of a run in two parts: the lists of the blocks, and what the run keeps beside them. Assumes nothing.
 use Prim.Native.Nat.{ℕ, _<_}
 use mathlib.Core.Path.{_≡_}
 use mathlib.Core.List.{List}
@@ -6,7 +6,6 @@ use lib.ListN.{length}
 use Rattle.blocks.specs.State.{State}
 use Rattle.blocks.specs.Position.{Accepted}
 use Rattle.problem.specs.Known.{Loads}
-use Rattle.towers.specs.Towers.{Bottoms, Tops, Highs}
 use Rattle.statuses.specs.Kept.{Known}
 
 -- An accepted problem, and room for the loads and for how the blocks stand.
@@ -32,9 +31,13 @@ pub record Towerable (s g : State) (l gl st bt tp gb hi : List ℕ) : Type 0 whe
   pub root-room : length s < length gb
   pub high-room : length s < length hi
 
--- The towers of the state and of the goal.
-pub record Towered (s g : State) (bt tp gb hi : List ℕ) : Type 0 where
-  pub bottoms : Bottoms s bt
-  pub tops : Tops s tp
-  pub roots : Bottoms g gb
-  pub highs : Highs s g hi
+-- Blocks that are known, and room for all else that a run keeps.
+pub record Fittable (s g : State) (l gl st rd lo bt tp gb hi : List ℕ) : Type 0 where
+  pub known : Known s g l st
+  pub goal-loads : Loads g gl
+  pub ready-size : length rd ≡ 65
+  pub loose-size : length lo ≡ 65
+  pub bottom-room : length s < length bt
+  pub top-room : length s < length tp
+  pub root-room : length s < length gb
+  pub high-room : length s < length hi

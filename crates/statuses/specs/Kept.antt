@@ -4,7 +4,7 @@ use mathlib.Core.Path.{_≡_}
 use mathlib.Core.Logic.{_≢_}
 use mathlib.Core.Bool.{Bool, cond}
 use mathlib.Core.List.{List}
-use lib.Dec.{eqb}
+use lib.Dec.{eqb, ltb}
 use lib.ListN.{length}
 use Rattle.blocks.specs.State.{State, support, put}
 use Rattle.blocks.specs.Position.{Problem, Accepted}
@@ -19,11 +19,15 @@ pub record Holds (l : List ℕ) (test : ℕ → Bool) : Type 0 where
   pub valid : Valid l
   pub same : (b : ℕ) → b < 4096 → member l b ≡ test b
 
--- The three sets of blocks that methods choose from: ready, perched and waiting.
-pub record Sets (s g : State) (rd pc wt : List ℕ) : Type 0 where
+-- The blocks to put down next, for kinds of runs below 3: the perched ones. For kind 3, and any higher number: all that wait, from the lowest of which the
+-- loop is walked.
+abbrev pub looseᵇ : ℕ → State → State → ℕ → Bool
+looseᵇ kind s g b = cond (ltb kind 3) (perchedᵇ s g b) (waitingᵇ s g b)
+
+-- The two sets of blocks that a run of a kind chooses from.
+pub record Sets (kind : ℕ) (s g : State) (rd lo : List ℕ) : Type 0 where
   pub ready : Holds rd (readyᵇ s g)
-  pub perched : Holds pc (perchedᵇ s g)
-  pub waiting : Holds wt (waitingᵇ s g)
+  pub loose : Holds lo (looseᵇ kind s g)
 
 -- What the tests of a block are decided by: the loads, and how the blocks stand.
 pub record Known (s g : State) (l st : List ℕ) : Type 0 where
@@ -37,82 +41,101 @@ pub record Testable (s g : State) (l st : List ℕ) (b : ℕ) : Type 0 where
   pub known : Known s g l st
   pub high : b ≤ length s
 
--- The same, with the three sets to write it into.
-pub record Refreshable (s g : State) (l st rd pc wt : List ℕ) (b : ℕ) : Type 0 where
+-- The same, with the set of ready blocks to write it into, and with both sets.
+pub record Offerable (s g : State) (l st rd : List ℕ) (b : ℕ) : Type 0 where
   pub testable : Testable s g l st b
   pub ready : Valid rd
-  pub perched : Valid pc
-  pub waiting : Valid wt
+
+pub record Refreshable (s g : State) (l st rd lo : List ℕ) (b : ℕ) : Type 0 where
+  pub testable : Testable s g l st b
+  pub ready : Valid rd
+  pub loose : Valid lo
 
 -- A set in which one number was decided anew.
 pub record Redone (l : List ℕ) (b : ℕ) (t : Bool) (l′ : List ℕ) : Type 0 where
   pub valid : Valid l′
   pub members : (y : ℕ) → y < 4096 → member l′ y ≡ cond (eqb y b) t (member l y)
 
-pub record Refreshed (s g : State) (b : ℕ) (rd pc wt rd′ pc′ wt′ : List ℕ) : Type 0 where
+pub record Refreshed (kind : ℕ) (s g : State) (b : ℕ) (rd lo rd′ lo′ : List ℕ) : Type 0 where
   pub ready : Redone rd b (readyᵇ s g b) rd′
-  pub perched : Redone pc b (perchedᵇ s g b) pc′
-  pub waiting : Redone wt b (waitingᵇ s g b) wt′
+  pub loose : Redone lo b (looseᵇ kind s g b) lo′
 
--- A set that is right but for the four blocks whose tests a move of a from u can change: a, u, and the blocks that go onto these in the goal.
-pub record Nearly (l : List ℕ) (test : ℕ → Bool) (g : State) (a u : ℕ) : Type 0 where
+-- A set of ready blocks that is right but for the four whose test a move of a from u can change: a, u unless it is the table, and the blocks that go onto
+-- these in the goal.
+pub record NearlyReady (l : List ℕ) (test : ℕ → Bool) (g : State) (a u : ℕ) : Type 0 where
   pub valid : Valid l
-  pub same : (b : ℕ) → b < 4096 → b ≢ a → b ≢ u → support g b ≢ a → (support g b ≡ u → u ≡ 0) → member l b ≡ test b
+  pub same : (b : ℕ) → b < 4096 → b ≢ a → (b ≡ u → u ≡ 0) → support g b ≢ a → (support g b ≡ u → u ≡ 0) → member l b ≡ test b
+
+-- A set of loose blocks that is right but for a, and for u unless it is the table.
+pub record NearlyLoose (l : List ℕ) (test : ℕ → Bool) (a u : ℕ) : Type 0 where
+  pub valid : Valid l
+  pub same : (b : ℕ) → b < 4096 → b ≢ a → (b ≡ u → u ≡ 0) → member l b ≡ test b
 
 -- The sets after a move of a from u, before the four blocks are decided anew.
-pub record Moving (s g : State) (l gl st rd pc wt : List ℕ) (a u : ℕ) : Type 0 where
+pub record Moving (kind : ℕ) (s g : State) (l gl st rd lo : List ℕ) (a u : ℕ) : Type 0 where
   pub known : Known s g l st
   pub goal-loads : Loads g gl
   pub moved : 1 ≤ a
   pub moved-high : a ≤ length s
   pub old-high : u ≤ length s
-  pub ready : Nearly rd (readyᵇ s g) g a u
-  pub perched : Nearly pc (perchedᵇ s g) g a u
-  pub waiting : Nearly wt (waitingᵇ s g) g a u
+  pub ready : NearlyReady rd (readyᵇ s g) g a u
+  pub loose : NearlyLoose lo (looseᵇ kind s g) a u
 
--- The three sets can be filled.
-pub record Settable (s g : State) (l st rd pc wt : List ℕ) : Type 0 where
+-- The two sets can be filled.
+pub record Settable (s g : State) (l st rd lo : List ℕ) : Type 0 where
   pub known : Known s g l st
   pub ready-size : length rd ≡ 65
-  pub perched-size : length pc ≡ 65
-  pub waiting-size : length wt ≡ 65
+  pub loose-size : length lo ≡ 65
 
--- All that the planner keeps beside the state s on the way to the goal g.
-pub record Kept (s g : State) (l gl st rd pc wt bt tp gb hi : List ℕ) : Type 0 where
-  pub known : Known s g l st
-  pub goal-loads : Loads g gl
-  pub sets : Sets s g rd pc wt
+-- The towers of the state and of the goal.
+pub record Towered (s g : State) (bt tp gb hi : List ℕ) : Type 0 where
   pub bottoms : Bottoms s bt
   pub tops : Tops s tp
   pub roots : Bottoms g gb
   pub highs : Highs s g hi
 
+-- All that a run of a kind keeps beside the state s on the way to the goal g. The towers are kept for the walk of the loop, so for kind 3 alone.
+pub record Kept (kind : ℕ) (s g : State) (l gl st rd lo bt tp gb hi : List ℕ) : Type 0 where
+  pub known : Known s g l st
+  pub goal-loads : Loads g gl
+  pub sets : Sets kind s g rd lo
+  pub towers : 3 ≤ kind → Towered s g bt tp gb hi
+
+-- The towers can follow a move of a method.
+pub record Traceable (kind : ℕ) (s g : State) (bt tp gb hi : List ℕ) (a x : ℕ) : Type 0 where
+  pub small : length s ≤ 4000
+  pub problem : Problem s g
+  pub move : Moves s g a x
+  pub towers : 3 ≤ kind → Towered s g bt tp gb hi
+
+pub record Traced (kind : ℕ) (s g : State) (bt tp gb hi : List ℕ) : Type 0 where
+  pub towers : 3 ≤ kind → Towered s g bt tp gb hi
+
 -- A move of a method can be made.
-pub record Turnable (s g : State) (l gl st rd pc wt bt tp gb hi : List ℕ) (a x : ℕ) : Type 0 where
-  pub kept : Kept s g l gl st rd pc wt bt tp gb hi
+pub record Turnable (kind : ℕ) (s g : State) (l gl st rd lo bt tp gb hi : List ℕ) (a x : ℕ) : Type 0 where
+  pub kept : Kept kind s g l gl st rd lo bt tp gb hi
   pub move : Moves s g a x
 
 -- It has been made.
-pub record Turned (s g : State) (a x : ℕ) (t l gl st rd pc wt bt tp gb hi : List ℕ) : Type 0 where
+pub record Turned (kind : ℕ) (s g : State) (a x : ℕ) (t l gl st rd lo bt tp gb hi : List ℕ) : Type 0 where
   pub state : t ≡ put s a x
-  pub kept : Kept t g l gl st rd pc wt bt tp gb hi
+  pub kept : Kept kind t g l gl st rd lo bt tp gb hi
 
 -- An accepted problem, and lists that are long enough for all that is to be kept.
-pub record Beginnable (s g : State) (cur l gl st rd pc wt bt tp gb hi : List ℕ) : Type 0 where
+pub record Beginnable (s g : State) (cur l gl st rd lo bt tp gb hi : List ℕ) : Type 0 where
   pub problem : Accepted s g
   pub state-size : length cur ≡ length s
   pub load-room : 4001 ≤ length l
   pub wanted-room : 4001 ≤ length gl
   pub stand-room : 4001 ≤ length st
   pub ready-size : length rd ≡ 65
-  pub perched-size : length pc ≡ 65
-  pub waiting-size : length wt ≡ 65
+  pub loose-size : length lo ≡ 65
   pub bottom-room : 4001 ≤ length bt
   pub top-room : 4001 ≤ length tp
   pub root-room : 4001 ≤ length gb
   pub high-room : 4001 ≤ length hi
 
 -- All is kept of the initial state.
-pub record Begun (s g : State) (cur l gl st rd pc wt bt tp gb hi : List ℕ) : Type 0 where
+pub record Begun (kind : ℕ) (s g : State) (cur l gl st rd lo bt tp gb hi : List ℕ) : Type 0 where
   pub state : cur ≡ s
-  pub kept : Kept s g l gl st rd pc wt bt tp gb hi
+  pub kept : Kept kind s g l gl st rd lo bt tp gb hi

@@ -1,16 +1,18 @@
-// All that is kept beside the state: which blocks are ready, perched and waiting, the loads and the towers. `begin` fills it, `turn` keeps it through a move
-// (document 001, section 3.4: a move changes the status of four blocks at most).
+// All that a run keeps beside the state: which blocks are ready and which are loose, the loads, how the blocks stand, and the towers where the loop is walked.
+// `begin` fills it, `turn` keeps it through a move (document 001, section 3.4: a move changes the status of four blocks at most).
 ghost use mathlib.Core.Path.{_≡_};
 ghost use mathlib.Core.Bool.{cond};
-ghost use Prim.Native.Nat.{_+_, _<_};
+ghost use Prim.Native.Nat.{_<_};
 ghost use lib.Dec.{eqb};
 ghost use lib.ListN.{length, getD};
+ghost use Rattle.blocks.specs.State.{put};
 ghost use Rattle.blocks.specs.Tests.{readyᵇ, perchedᵇ, waitingᵇ};
-ghost use Rattle.statuses.specs.Kept.{Sets, Testable, Refreshable, Refreshed, Moving, Settable, Turnable, Turned, Beginnable, Begun};
-ghost use Rattle.statuses.specs.Begins.{Listable, Listed, Towerable, Towered};
+ghost use Rattle.statuses.specs.Kept.{looseᵇ, Sets, Testable, Offerable, Refreshable, Redone, Refreshed, Moving, Settable, Kept, Traceable, Traced, Turnable, Turned, Beginnable, Begun};
+ghost use Rattle.statuses.specs.Begins.{Listable, Listed, Towerable, Fittable};
 
-// Everything that is kept beside the initial state.
+// Everything that a run of a kind keeps beside the initial state.
 pub fn begin(
+    kind: usize,
     initial: &[u16],
     goal: &[u16],
     cur: &mut [u16],
@@ -18,29 +20,30 @@ pub fn begin(
     wanted: &mut [u16],
     stands: &mut [u16],
     ready: &mut [u64],
-    perched: &mut [u64],
-    waiting: &mut [u64],
+    loose: &mut [u64],
     bottoms: &mut [u16],
     tops: &mut [u16],
     roots: &mut [u16],
     highs: &mut [u16],
 )
-    requires { ⌜ Beginnable (now initial) (now goal) (now cur) (now load) (now wanted) (now stands) (now ready) (now perched) (now waiting) (now bottoms) (now tops) (now roots) (now highs) ⌝ }
-    ensures { λ r. ⌜ Begun (now (initial .entry)) (now (goal .entry)) (now (cur .exit)) (now (load .exit)) (now (wanted .exit)) (now (stands .exit)) (now (ready .exit)) (now (perched .exit)) (now (waiting .exit)) (now (bottoms .exit)) (now (tops .exit)) (now (roots .exit)) (now (highs .exit)) ⌝ }
+    requires { ⌜ Beginnable (now initial) (now goal) (now cur) (now load) (now wanted) (now stands) (now ready) (now loose) (now bottoms) (now tops) (now roots) (now highs) ⌝ }
+    ensures { λ r. ⌜ Begun kind (now (initial .entry)) (now (goal .entry)) (now (cur .exit)) (now (load .exit)) (now (wanted .exit)) (now (stands .exit)) (now (ready .exit)) (now (loose .exit)) (now (bottoms .exit)) (now (tops .exit)) (now (roots .exit)) (now (highs .exit)) ⌝ }
 {
     begin_lists(initial, goal, cur, load, wanted, stands);
-    begin_towers(
+    fit(
+        kind,
         initial,
         goal,
         load,
         wanted,
         stands,
+        ready,
+        loose,
         bottoms,
         tops,
         roots,
         highs,
     );
-    fill_sets(initial, goal, load, stands, ready, perched, waiting);
 }
 
 // The state, the loads of both states, and how the blocks stand.
@@ -62,9 +65,43 @@ fn begin_lists(
     stands[0] = 2;
 }
 
-// The towers of both states.
-fn begin_towers(
-    initial: &[u16],
+// What a run of a kind keeps beside the blocks: the two sets, and the towers where it walks the loop.
+pub fn fit(
+    kind: usize,
+    cur: &[u16],
+    goal: &[u16],
+    load: &[u16],
+    wanted: &[u16],
+    stands: &[u16],
+    ready: &mut [u64],
+    loose: &mut [u64],
+    bottoms: &mut [u16],
+    tops: &mut [u16],
+    roots: &mut [u16],
+    highs: &mut [u16],
+)
+    requires { ⌜ Fittable (now cur) (now goal) (now load) (now wanted) (now stands) (now ready) (now loose) (now bottoms) (now tops) (now roots) (now highs) ⌝ }
+    ensures { λ r. ⌜ Kept kind (now (cur .entry)) (now (goal .entry)) (now (load .entry)) (now (wanted .entry)) (now (stands .entry)) (now (ready .exit)) (now (loose .exit)) (now (bottoms .exit)) (now (tops .exit)) (now (roots .exit)) (now (highs .exit)) ⌝ }
+{
+    fit_towers(
+        kind,
+        cur,
+        goal,
+        load,
+        wanted,
+        stands,
+        bottoms,
+        tops,
+        roots,
+        highs,
+    );
+    fill_sets(kind, cur, goal, load, stands, ready, loose);
+}
+
+// The towers of both states, where the kind of run walks the loop.
+fn fit_towers(
+    kind: usize,
+    cur: &[u16],
     goal: &[u16],
     load: &[u16],
     wanted: &[u16],
@@ -74,24 +111,50 @@ fn begin_towers(
     roots: &mut [u16],
     highs: &mut [u16],
 )
-    requires { ⌜ Towerable (now initial) (now goal) (now load) (now wanted) (now stands) (now bottoms) (now tops) (now roots) (now highs) ⌝ }
-    ensures { λ r. ⌜ Towered (now (initial .entry)) (now (goal .entry)) (now (bottoms .exit)) (now (tops .exit)) (now (roots .exit)) (now (highs .exit)) ⌝ }
+    requires { ⌜ Towerable (now cur) (now goal) (now load) (now wanted) (now stands) (now bottoms) (now tops) (now roots) (now highs) ⌝ }
+    ensures { λ r. ⌜ Traced kind (now (cur .entry)) (now (goal .entry)) (now (bottoms .exit)) (now (tops .exit)) (now (roots .exit)) (now (highs .exit)) ⌝ }
 {
-    towers::fill_towers(initial, load, bottoms, tops);
+    if kind < 3 {
+        return;
+    }
+    towers::fill_towers(cur, load, bottoms, tops);
     towers::fill_towers(goal, wanted, roots, highs);
-    towers::fill_highs(initial, goal, wanted, roots, stands, highs);
+    towers::fill_highs(cur, goal, wanted, roots, stands, highs);
+}
+
+// The two sets of the state.
+fn fill_sets(
+    kind: usize,
+    cur: &[u16],
+    goal: &[u16],
+    load: &[u16],
+    stands: &[u16],
+    ready: &mut [u64],
+    loose: &mut [u64],
+)
+    requires { ⌜ Settable (now cur) (now goal) (now load) (now stands) (now ready) (now loose) ⌝ }
+    ensures { λ r. ⌜ Sets kind (now (cur .entry)) (now (goal .entry)) (now (ready .exit)) (now (loose .exit)) ⌝ }
+{
+    numberset::clear(ready);
+    numberset::clear(loose);
+    let n = cur.len();
+    let mut b = 0;
+    while b < n {
+        b += 1;
+        refresh(kind, cur, goal, load, stands, ready, loose, b);
+    }
 }
 
 // One move of a method: the state and all that is kept beside it.
 pub fn turn(
+    kind: usize,
     cur: &mut [u16],
     goal: &[u16],
     load: &mut [u16],
     wanted: &[u16],
     stands: &mut [u16],
     ready: &mut [u64],
-    perched: &mut [u64],
-    waiting: &mut [u64],
+    loose: &mut [u64],
     bottoms: &mut [u16],
     tops: &mut [u16],
     roots: &[u16],
@@ -99,89 +162,61 @@ pub fn turn(
     a: usize,
     x: usize,
 )
-    requires { ⌜ Turnable (now cur) (now goal) (now load) (now wanted) (now stands) (now ready) (now perched) (now waiting) (now bottoms) (now tops) (now roots) (now highs) a x ⌝ }
-    ensures { λ r. ⌜ Turned (now (cur .entry)) (now (goal .entry)) a x (now (cur .exit)) (now (load .exit)) (now (wanted .entry)) (now (stands .exit)) (now (ready .exit)) (now (perched .exit)) (now (waiting .exit)) (now (bottoms .exit)) (now (tops .exit)) (now (roots .entry)) (now (highs .exit)) ⌝ }
+    requires { ⌜ Turnable kind (now cur) (now goal) (now load) (now wanted) (now stands) (now ready) (now loose) (now bottoms) (now tops) (now roots) (now highs) a x ⌝ }
+    ensures { λ r. ⌜ Turned kind (now (cur .entry)) (now (goal .entry)) a x (now (cur .exit)) (now (load .exit)) (now (wanted .entry)) (now (stands .exit)) (now (ready .exit)) (now (loose .exit)) (now (bottoms .exit)) (now (tops .exit)) (now (roots .entry)) (now (highs .exit)) ⌝ }
 {
-    towers::shift(cur, bottoms, tops, a, x);
-    towers::settle(cur, goal, roots, stands, highs, a, x);
+    trace(kind, cur, goal, bottoms, tops, roots, highs, a, x);
+    towers::settle(cur, goal, stands, a, x);
     let u = problem::wide(cur[a - 1]);
     problem::make_move(cur, load, a, x);
-    refresh_four(
-        cur,
-        goal,
-        load,
-        wanted,
-        stands,
-        ready,
-        perched,
-        waiting,
-        a,
-        u,
-    );
+    refresh_four(kind, cur, goal, load, wanted, stands, ready, loose, a, u);
 }
 
-// The three sets of the initial state.
-fn fill_sets(
+// The towers after a move of a method, where they are kept.
+fn trace(
+    kind: usize,
     cur: &[u16],
     goal: &[u16],
-    load: &[u16],
-    stands: &[u16],
-    ready: &mut [u64],
-    perched: &mut [u64],
-    waiting: &mut [u64],
+    bottoms: &mut [u16],
+    tops: &mut [u16],
+    roots: &[u16],
+    highs: &mut [u16],
+    a: usize,
+    x: usize,
 )
-    requires { ⌜ Settable (now cur) (now goal) (now load) (now stands) (now ready) (now perched) (now waiting) ⌝ }
-    ensures { λ r. ⌜ Sets (now (cur .entry)) (now (goal .entry)) (now (ready .exit)) (now (perched .exit)) (now (waiting .exit)) ⌝ }
+    requires { ⌜ Traceable kind (now cur) (now goal) (now bottoms) (now tops) (now roots) (now highs) a x ⌝ }
+    ensures { λ r. ⌜ Traced kind (put (now (cur .entry)) a x) (now (goal .entry)) (now (bottoms .exit)) (now (tops .exit)) (now (roots .entry)) (now (highs .exit)) ⌝ }
 {
-    numberset::clear(ready);
-    numberset::clear(perched);
-    numberset::clear(waiting);
-    let n = cur.len();
-    let mut b = 0;
-    while b < n {
-        b += 1;
-        refresh(cur, goal, load, stands, ready, perched, waiting, b);
+    if kind < 3 {
+        return;
     }
+    towers::shift(cur, bottoms, tops, a, x);
+    towers::raise(cur, goal, roots, highs, a, x);
 }
 
-// Decides the tests of the four blocks that a move of a from u can have changed: a, u, and the blocks that go onto these in the goal.
+// Decides the tests that a move of a from u can have changed: of a, and whether the block that goes onto it in the goal is ready; the same for u, unless it is the table.
 fn refresh_four(
+    kind: usize,
     cur: &[u16],
     goal: &[u16],
     load: &[u16],
     wanted: &[u16],
     stands: &[u16],
     ready: &mut [u64],
-    perched: &mut [u64],
-    waiting: &mut [u64],
+    loose: &mut [u64],
     a: usize,
     u: usize,
 )
-    requires { ⌜ Moving (now cur) (now goal) (now load) (now wanted) (now stands) (now ready) (now perched) (now waiting) a u ⌝ }
-    ensures { λ r. ⌜ Sets (now (cur .entry)) (now (goal .entry)) (now (ready .exit)) (now (perched .exit)) (now (waiting .exit)) ⌝ }
+    requires { ⌜ Moving kind (now cur) (now goal) (now load) (now wanted) (now stands) (now ready) (now loose) a u ⌝ }
+    ensures { λ r. ⌜ Sets kind (now (cur .entry)) (now (goal .entry)) (now (ready .exit)) (now (loose .exit)) ⌝ }
 {
-    refresh(cur, goal, load, stands, ready, perched, waiting, a);
-    refresh(cur, goal, load, stands, ready, perched, waiting, u);
-    refresh(
-        cur,
-        goal,
-        load,
-        stands,
-        ready,
-        perched,
-        waiting,
-        onto(wanted, a),
-    );
-    refresh(
-        cur,
-        goal,
-        load,
-        stands,
-        ready,
-        perched,
-        waiting,
-        onto(wanted, u),
-    );
+    refresh(kind, cur, goal, load, stands, ready, loose, a);
+    offer(cur, goal, load, stands, ready, onto(wanted, a));
+    if u == 0 {
+        return;
+    }
+    refresh(kind, cur, goal, load, stands, ready, loose, u);
+    offer(cur, goal, load, stands, ready, onto(wanted, u));
 }
 
 // The block that goes onto u in the goal; 0 for the table.
@@ -192,23 +227,30 @@ fn onto(wanted: &[u16], u: usize) -> usize
     if u == 0 { 0 } else { problem::wide(wanted[u]) }
 }
 
-// Decides the three tests of block b anew.
+// Decides both tests of block b anew.
 fn refresh(
+    kind: usize,
     cur: &[u16],
     goal: &[u16],
     load: &[u16],
     stands: &[u16],
     ready: &mut [u64],
-    perched: &mut [u64],
-    waiting: &mut [u64],
+    loose: &mut [u64],
     b: usize,
 )
-    requires { ⌜ Refreshable (now cur) (now goal) (now load) (now stands) (now ready) (now perched) (now waiting) b ⌝ }
-    ensures { λ r. ⌜ Refreshed (now (cur .entry)) (now (goal .entry)) b (now (ready .entry)) (now (perched .entry)) (now (waiting .entry)) (now (ready .exit)) (now (perched .exit)) (now (waiting .exit)) ⌝ }
+    requires { ⌜ Refreshable (now cur) (now goal) (now load) (now stands) (now ready) (now loose) b ⌝ }
+    ensures { λ r. ⌜ Refreshed kind (now (cur .entry)) (now (goal .entry)) b (now (ready .entry)) (now (loose .entry)) (now (ready .exit)) (now (loose .exit)) ⌝ }
+{
+    offer(cur, goal, load, stands, ready, b);
+    numberset::assign(loose, b, is_loose(kind, cur, goal, load, stands, b));
+}
+
+// Decides anew whether block b is ready.
+fn offer(cur: &[u16], goal: &[u16], load: &[u16], stands: &[u16], ready: &mut [u64], b: usize)
+    requires { ⌜ Offerable (now cur) (now goal) (now load) (now stands) (now ready) b ⌝ }
+    ensures { λ r. ⌜ Redone (now (ready .entry)) b (readyᵇ (now (cur .entry)) (now (goal .entry)) b) (now (ready .exit)) ⌝ }
 {
     numberset::assign(ready, b, is_ready(cur, goal, load, stands, b));
-    numberset::assign(perched, b, is_perched(cur, goal, load, stands, b));
-    numberset::assign(waiting, b, is_waiting(cur, goal, load, stands, b));
 }
 
 // Whether block b has a constructive move: it is misplaced and clear, and its goal support is in position and clear.
@@ -224,6 +266,17 @@ fn is_ready(cur: &[u16], goal: &[u16], load: &[u16], stands: &[u16], b: usize) -
         return false;
     }
     !problem::taken(load, x)
+}
+
+// Whether block b is perched, or waits, by the kind of run.
+fn is_loose(kind: usize, cur: &[u16], goal: &[u16], load: &[u16], stands: &[u16], b: usize) -> bool
+    requires { ⌜ Testable (now cur) (now goal) (now load) (now stands) b ⌝ }
+    ensures { λ r. ⌜ r ≡ looseᵇ kind (now (cur .entry)) (now (goal .entry)) b ⌝ }
+{
+    if kind < 3 {
+        return is_perched(cur, goal, load, stands, b);
+    }
+    is_waiting(cur, goal, load, stands, b)
 }
 
 // Whether block b is misplaced and clear, and off the table.

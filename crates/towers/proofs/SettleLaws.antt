@@ -23,7 +23,7 @@ use Rattle.blocks.proofs.TowerLaws.{Reaches, tower-chain, clear-beneath}
 use Rattle.blocks.proofs.PositionLaws.{position-reflects, position-table, position-down, position-beneath, position-moved, misplaced-block}
 use Rattle.blocks.proofs.StallLaws.{foot}
 use Rattle.blocks.proofs.StepLaws.{moves-legal}
-use Rattle.towers.specs.Towers.{bottom, Settleable, Settled}
+use Rattle.towers.specs.Towers.{bottom, Bottoms, Stands, Highs, Settleable, Raisable}
 use Rattle.towers.proofs.BottomLaws.{Base, bottom-base, bottom-same, bottom-block}
 
 -- the last misplaced block depends on the positions beneath alone
@@ -36,22 +36,22 @@ last-same s t g (suc k) b h = by (inPositionᵇ t g (support g b)) (inPosition�
         → cond u b (lastMisplaced t g k (support g b)) ≡ cond v b (lastMisplaced s g k (support g b))
     by u v e r = ap (λ y. cond y b (lastMisplaced t g k (support g b))) e ∙ ap (cond v b) r
 
-module _ {s g : State} {gb st hi : List ℕ} {a x : ℕ} (w : Settleable s g gb st hi a x) where
+module _ {s g : State} {a x : ℕ} (problem : Problem s g) (move : Moves s g a x) where
   legal : Legal s a x
-  legal = moves-legal (w .problem) (w .move)
+  legal = moves-legal problem move
 
   after : Problem (put s a x) g
-  after = problem-moved legal (w .problem)
+  after = problem-moved legal problem
 
   moved-misplaced : Misplaced s g a
-  moved-misplaced = by (w .move)
+  moved-misplaced = by move
     where
       by : Moves s g a x → Misplaced s g a
       by (builds c) = c .misplaced
       by (clears p e) = p .0 .0
 
   landed : InPosition s g x
-  landed = by (w .move)
+  landed = by move
     where
       by : Moves s g a x → InPosition s g x
       by (builds c) = c .position
@@ -60,7 +60,7 @@ module _ {s g : State} {gb st hi : List ℕ} {a x : ℕ} (w : Settleable s g gb 
   -- the test of every other block is as it was
   elsewhere : (c : ℕ) → c ≢ a → inPositionᵇ (put s a x) g c ≡ inPositionᵇ s g c
   elsewhere c h =
-      reflects-same (position-unframe legal h) (position-frame legal h) (position-reflects (put s a x) g (after .initial) c) (position-reflects s g (w .problem .initial) c)
+      reflects-same (position-unframe legal h) (position-frame legal h) (position-reflects (put s a x) g (after .initial) c) (position-reflects s g (problem .initial) c)
 
   -- a block misplaced afterwards was misplaced before
   was-misplaced : {b : ℕ} → Misplaced (put s a x) g b → Misplaced s g b
@@ -84,27 +84,26 @@ module _ {s g : State} {gb st hi : List ℕ} {a x : ℕ} (w : Settleable s g gb 
         by (inl e) =
             ap (inPositionᵇ (put s a x) g) e
             ∙ to-false (position-reflects (put s a x) g (after .initial) a) still
-            ∙ sym (to-false (position-reflects s g (w .problem .initial) a) moved-misplaced)
+            ∙ sym (to-false (position-reflects s g (problem .initial) a) moved-misplaced)
             ∙ ap (inPositionᵇ s g) (sym e)
 
-    pub settled-off : Settled (put s a x) g st hi
-    settled-off =
+    stands-off : {st : List ℕ} → Stands s g st → Stands (put s a x) g st
+    stands-off w =
         record {
-          stands =
-              record {
-                room = rw (length-put s a x) (w .stands .room);
-                at = λ b h. w .stands .at b (rw (length-put s a x) at h) ∙ ap (λ t. cond t 2 1) (sym (same-everywhere b));
-              };
-          highs =
-              record {
-                room = rw (length-put s a x) (w .highs .room);
-                at = λ b m.
-                    w .highs .at b (was-misplaced m)
-                    ∙ ap (support g) (
-                    sym (last-same s (put s a x) g (length s) b (λ j. same-everywhere (down g (suc j) b)))
-                    ∙ ap (λ k. lastMisplaced (put s a x) g k b) (sym (length-put s a x))
-                    );
-              };
+          room = rw (length-put s a x) (w .room);
+          at = λ b h. w .at b (rw (length-put s a x) at h) ∙ ap (λ t. cond t 2 1) (sym (same-everywhere b));
+        }
+
+    highs-off : {hi : List ℕ} → Highs s g hi → Highs (put s a x) g hi
+    highs-off w =
+        record {
+          room = rw (length-put s a x) (w .room);
+          at = λ b m.
+              w .at b (was-misplaced m)
+              ∙ ap (support g) (
+              sym (last-same s (put s a x) g (length s) b (λ j. same-everywhere (down g (suc j) b)))
+              ∙ ap (λ k. lastMisplaced (put s a x) g k b) (sym (length-put s a x))
+              );
         }
 
   -- ---- the block comes into position
@@ -119,11 +118,11 @@ module _ {s g : State} {gb st hi : List ℕ} {a x : ℕ} (w : Settleable s g gb 
     block-a : Block g a
     block-a =
         let k = legal .block in
-        record { low = k .low; high = omega (arith, k .high, w .problem .same) }
+        record { low = k .low; high = omega (arith, k .high, problem .same) }
 
     -- a is beneath b in the goal where they stand in one goal tower and b is misplaced
     beneath : {b : ℕ} → Misplaced (put s a x) g b → bottom g b ≡ bottom g a → Reaches g b a
-    beneath {b} m e = by (tower-chain (w .problem .goal) b a (bottom g a) (p .steps) (q .steps) (p .reaches ∙ e) (q .reaches) (q .block))
+    beneath {b} m e = by (tower-chain (problem .goal) b a (bottom g a) (p .steps) (q .steps) (p .reaches ∙ e) (q .reaches) (q .block))
       where
         k : Block (put s a x) b
         k = misplaced-block (after .same) m
@@ -132,10 +131,10 @@ module _ {s g : State} {gb st hi : List ℕ} {a x : ℕ} (w : Settleable s g gb 
         block-b = record { low = k .low; high = omega (arith, k .high, after .same) }
 
         p : Base g b (bottom g b)
-        p = bottom-base (w .problem .goal) block-b
+        p = bottom-base (problem .goal) block-b
 
         q : Base g a (bottom g a)
-        q = bottom-base (w .problem .goal) block-a
+        q = bottom-base (problem .goal) block-a
 
         by : Reaches g b a ⊎ Reaches g a b → Reaches g b a
         by (inl r) = r
@@ -172,60 +171,84 @@ module _ {s g : State} {gb st hi : List ℕ} {a x : ℕ} (w : Settleable s g gb 
 
     -- in another goal tower nothing changes
     apart : {b : ℕ} → Misplaced (put s a x) g b → bottom g b ≢ bottom g a → lastMisplaced (put s a x) g (length s) b ≡ lastMisplaced s g (length s) b
-    apart {b} m n = last-same s (put s a x) g (length s) b (λ j. elsewhere (down g (suc j) b) (λ e. n (bottom-same (w .problem .goal) (suc j, e) block-a)))
+    apart {b} m n = last-same s (put s a x) g (length s) b (λ j. elsewhere (down g (suc j) b) (λ e. n (bottom-same (problem .goal) (suc j, e) block-a)))
 
-    pub settled-home : {r : ℕ} → r ≡ getD gb a 0 → Settled (put s a x) g (set st a 2) (set hi r a)
-    settled-home {r} er =
-        record {
-          stands = record { room = rw (length-put s a x, length-set st a 2) (w .stands .room); at = λ b h. stand b (rw (length-put s a x) at h) (same? b a) };
-          highs = record { room = rw (length-put s a x, length-set hi r a) (w .highs .room); at = λ b m. high b m (same? (bottom g b) (bottom g a)) };
-        }
+    stands-home : {st : List ℕ} → Stands s g st → Stands (put s a x) g (set st a 2)
+    stands-home {st} w = record { room = rw (length-put s a x, length-set st a 2) (w .room); at = λ b h. stand b (rw (length-put s a x) at h) (same? b a) }
       where
-        root : r ≡ bottom g a
-        root = er ∙ w .roots .at a (block-a .low) (block-a .high)
-
         stand : (b : ℕ) → b ≤ length s → (b ≡ a) ⊎ (¬ (b ≡ a)) → getD (set st a 2) b 0 ≡ cond (inPositionᵇ (put s a x) g b) 2 1
         stand b h (inl e) =
             ap (λ k. getD (set st a 2) k 0) e
-            ∙ getD-set-same st a 2 0 (omega (arith, w .stands .room, legal .block .high))
+            ∙ getD-set-same st a 2 0 (omega (arith, w .room, legal .block .high))
             ∙ ap (λ t. cond t 2 1) (sym (ap (inPositionᵇ (put s a x) g) e ∙ to-true (position-reflects (put s a x) g (after .initial) a) right))
-        stand b h (inr n) = getD-set-other st a b 2 0 n ∙ w .stands .at b h ∙ ap (λ t. cond t 2 1) (sym (elsewhere b n))
+        stand b h (inr n) = getD-set-other st a b 2 0 n ∙ w .at b h ∙ ap (λ t. cond t 2 1) (sym (elsewhere b n))
+
+    highs-home : {gb hi : List ℕ} {r : ℕ} → Bottoms g gb → Highs s g hi → r ≡ getD gb a 0 → Highs (put s a x) g (set hi r a)
+    highs-home {gb} {hi} {r} roots w er =
+        record { room = rw (length-put s a x, length-set hi r a) (w .room); at = λ b m. high b m (same? (bottom g b) (bottom g a)) }
+      where
+        root : r ≡ bottom g a
+        root = er ∙ roots .at a (block-a .low) (block-a .high)
 
         inside : r < length hi
-        inside = omega (arith, root, w .highs .room, w .problem .same, bottom-block (w .problem .goal) block-a .high)
+        inside = omega (arith, root, w .room, problem .same, bottom-block (problem .goal) block-a .high)
 
         high : (b : ℕ) → Misplaced (put s a x) g b → (bottom g b ≡ bottom g a) ⊎ (¬ (bottom g b ≡ bottom g a))
             → getD (set hi r a) (bottom g b) 0 ≡ support g (lastMisplaced (put s a x) g (length (put s a x)) b)
         high b m (inl e) = ap (λ k. getD (set hi r a) k 0) (e ∙ sym root) ∙ getD-set-same hi r a 0 inside ∙ highest m e
         high b m (inr n) =
             getD-set-other hi r (bottom g b) a 0 (λ e. n (e ∙ root))
-            ∙ w .highs .at b (was-misplaced m)
+            ∙ w .at b (was-misplaced m)
             ∙ ap (support g) (sym (apart m n) ∙ ap (λ k. lastMisplaced (put s a x) g k b) (sym (length-put s a x)))
 
 -- ---- what the code reads and writes
 
-module _ {s g : State} {gb st hi : List ℕ} {a x : ℕ} (w : Settleable s g gb st hi a x) where
+module _ {s g : State} {a x : ℕ} (problem : Problem s g) (move : Moves s g a x) where
+  block : Block s a
+  block = moves-legal problem move .block
+
+  low : 1 ≤ a
+  low = block .low
+
+  within : a - 1 < length g
+  within = omega (arith, block .low, block .high, problem .same)
+
+  home : {y : ℕ} → y ≡ getD g (a - 1) 0 → y ≡ support g a
+  home e = e ∙ sym (support-at g a low)
+
+module _ {s g : State} {st : List ℕ} {a x : ℕ} (w : Settleable s g st a x) where
   pub moved-low : 1 ≤ a
-  moved-low = moves-legal (w .problem) (w .move) .block .low
+  moved-low = low (w .problem) (w .move)
 
   pub goal-within : a - 1 < length g
-  goal-within = let k = moves-legal (w .problem) (w .move) .block in omega (arith, k .low, k .high, w .problem .same)
-
-  pub target-within : x < length st
-  target-within = omega (arith, moves-legal (w .problem) (w .move) .inside, w .stands .room)
+  goal-within = within (w .problem) (w .move)
 
   pub moved-within : a < length st
-  moved-within = omega (arith, moves-legal (w .problem) (w .move) .block .high, w .stands .room)
+  moved-within = omega (arith, block (w .problem) (w .move) .high, w .stands .room)
+
+  -- the ways out
+  pub off-way : {y : ℕ} → y ≡ getD g (a - 1) 0 → x ≢ y → Stands (put s a x) g st
+  off-way e n = stands-off (w .problem) (w .move) (λ h. n (h ∙ sym (home (w .problem) (w .move) e))) (w .stands)
+
+  pub home-way : {y : ℕ} → y ≡ getD g (a - 1) 0 → x ≡ y → Stands (put s a x) g (set st a 2)
+  home-way e h = stands-home (w .problem) (w .move) (h ∙ home (w .problem) (w .move) e) (w .stands)
+
+module _ {s g : State} {gb hi : List ℕ} {a x : ℕ} (w : Raisable s g gb hi a x) where
+  pub raised-low : 1 ≤ a
+  raised-low = low (w .problem) (w .move)
+
+  pub raised-within : a - 1 < length g
+  raised-within = within (w .problem) (w .move)
 
   pub root-within : a < length gb
-  root-within = omega (arith, moves-legal (w .problem) (w .move) .block .high, w .problem .same, w .roots .room)
+  root-within = omega (arith, block (w .problem) (w .move) .high, w .problem .same, w .roots .room)
 
-  pub moved-fits : Fits w16 a
-  moved-fits = record { fits = omega (arith, moves-legal (w .problem) (w .move) .block .high, w .small) }
+  pub raised-fits : Fits w16 a
+  raised-fits = record { fits = omega (arith, block (w .problem) (w .move) .high, w .small) }
 
   root-is : {r : ℕ} → r ≡ getD gb a 0 → r ≤ length s
   root-is e =
-      let k = moves-legal (w .problem) (w .move) .block in
+      let k = block (w .problem) (w .move) in
       let b : Block g a = record { low = k .low; high = omega (arith, k .high, w .problem .same) } in
       omega (arith, e, w .roots .at a (b .low) (b .high), bottom-block (w .problem .goal) b .high, w .problem .same)
 
@@ -236,13 +259,8 @@ module _ {s g : State} {gb st hi : List ℕ} {a x : ℕ} (w : Settleable s g gb 
   high-scaled e = record { fits = omega (arith, root-is e, w .small) }
 
   -- the ways out
-  pub off-way : {y : ℕ} → y ≡ getD g (a - 1) 0 → x ≢ y → Settled (put s a x) g st hi
-  off-way e n = settled-off w (λ h. n (h ∙ support-at g a moved-low ∙ sym e))
+  pub flat-way : {y : ℕ} → y ≡ getD g (a - 1) 0 → x ≢ y → Highs (put s a x) g hi
+  flat-way e n = highs-off (w .problem) (w .move) (λ h. n (h ∙ sym (home (w .problem) (w .move) e))) (w .highs)
 
-  pub never-way : getD st x 0 ≢ 2 → Settled (put s a x) g st hi
-  never-way n =
-      let i = to-true (position-reflects s g (w .problem .initial) x) (landed w) in
-      absurd (n (w .stands .at x (moves-legal (w .problem) (w .move) .inside) ∙ ap (λ t. cond t 2 1) i))
-
-  pub home-way : {y r : ℕ} → y ≡ getD g (a - 1) 0 → x ≡ y → r ≡ getD gb a 0 → Settled (put s a x) g (set st a 2) (set hi r a)
-  home-way e h k = settled-home w (h ∙ e ∙ sym (support-at g a moved-low)) k
+  pub raised-way : {y r : ℕ} → y ≡ getD g (a - 1) 0 → x ≡ y → r ≡ getD gb a 0 → Highs (put s a x) g (set hi r a)
+  raised-way e h k = highs-home (w .problem) (w .move) (h ∙ home (w .problem) (w .move) e) (w .roots) (w .highs) k

@@ -90,15 +90,16 @@ pub record Found (s g : State) (b : ℕ) (r : Blocked) : Type 0 where
   pub next : r .next ≡ successor s g b
 
 -- A move of a method, in a state of which it is known how the blocks stand.
-pub record Settleable (s g : State) (gb st hi : List ℕ) (a x : ℕ) : Type 0 where
+pub record Settleable (s g : State) (st : List ℕ) (a x : ℕ) : Type 0 where
+  pub small : length s ≤ 4000
+  pub problem : Problem s g
+  pub move : Moves s g a x
+  pub stands : Stands s g st
+
+-- The highest block in position of a's goal tower can be decided anew.
+pub record Raisable (s g : State) (gb hi : List ℕ) (a x : ℕ) : Type 0 where
   pub small : length s ≤ 4000
   pub problem : Problem s g
   pub move : Moves s g a x
   pub roots : Bottoms g gb
-  pub stands : Stands s g st
-  pub highs : Highs s g hi
-
--- How the blocks stand afterwards.
-pub record Settled (s g : State) (st hi : List ℕ) : Type 0 where
-  pub stands : Stands s g st
   pub highs : Highs s g hi

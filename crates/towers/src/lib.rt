@@ -5,7 +5,7 @@ ghost use Prim.Native.Nat.{_<_};
 ghost use lib.Dec.{eqb};
 ghost use lib.ListN.{length, getD};
 ghost use Rattle.blocks.specs.State.{put};
-ghost use Rattle.towers.specs.Towers.{bottom, Filled, Fillable, Climbed, Highs, Shiftable, Findable, Found, Settleable, Settled};
+ghost use Rattle.towers.specs.Towers.{bottom, Filled, Fillable, Climbed, Highs, Shiftable, Findable, Found, Settleable, Stands, Raisable};
 ghost use Rattle.towers.specs.Walks.{Standing, Markable, Marked, Descending, FirstRight};
 
 // What is in a block's way, and the block to move first: its successor.
@@ -115,27 +115,27 @@ fn entry_or(l: &[u16], x: usize, y: usize) -> usize
     if x == 0 { y } else { problem::wide(l[x]) }
 }
 
-// How the blocks stand after a move of a method of a to x, and the highest block in position of a's goal tower.
-pub fn settle(
-    s: &[u16],
-    goal: &[u16],
-    roots: &[u16],
-    stands: &mut [u16],
-    highs: &mut [u16],
-    a: usize,
-    x: usize,
-)
-    requires { ⌜ Settleable (now s) (now goal) (now roots) (now stands) (now highs) a x ⌝ }
-    ensures { λ r. ⌜ Settled (put (now (s .entry)) a x) (now (goal .entry)) (now (stands .exit)) (now (highs .exit)) ⌝ }
+// How the blocks stand after a move of a method of a to x: a comes into position where x is its goal support. The state is only spoken of.
+pub fn settle(s: &[u16], goal: &[u16], stands: &mut [u16], a: usize, x: usize)
+    requires { ⌜ Settleable (now s) (now goal) (now stands) a x ⌝ }
+    ensures { λ r. ⌜ Stands (put (now (s .entry)) a x) (now (goal .entry)) (now (stands .exit)) ⌝ }
 {
     let y = problem::wide(goal[a - 1]);
     if x != y {
         return;
     }
-    if stands[x] != 2 {
+    stands[a] = 2;
+}
+
+// The highest blocks in position after such a move: a is that of its goal tower where it comes into position. The state is only spoken of.
+pub fn raise(s: &[u16], goal: &[u16], roots: &[u16], highs: &mut [u16], a: usize, x: usize)
+    requires { ⌜ Raisable (now s) (now goal) (now roots) (now highs) a x ⌝ }
+    ensures { λ r. ⌜ Highs (put (now (s .entry)) a x) (now (goal .entry)) (now (highs .exit)) ⌝ }
+{
+    let y = problem::wide(goal[a - 1]);
+    if x != y {
         return;
     }
-    stands[a] = 2;
     let r = problem::wide(roots[a]);
     highs[r] = a as u16;
 }

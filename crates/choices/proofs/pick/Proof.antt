@@ -1,11 +1,11 @@
 -- `pick` meets its contract: a law for each way out. Assumes nothing.
 use borrow.Author.Needs.{needs}
-use Rattle.choices.proofs.PickLaws.{span-within, ready-may, perched-may, waiting-may, clear-way, ready-low, ready-within, build-way, build-end, down-way, loop-end, walkable, loop-way}
+use Rattle.choices.proofs.PickLaws.{span-within, ready-may, loose-may, clear-way, ready-low, ready-within, build-way, build-end, down-way, loop-end, walkable, loop-way}
 use Rattle.choices.proofs.pick.Statement.{statement}
 use Rattle.choices.proofs.pick.Tie as tie
 
 lowest-requires : tie.Need-lowest-requires
-lowest-requires c κs = search (needs, perched-may)
+lowest-requires c κs = search (needs, loose-may)
 
 returns : tie.Need-returns
 returns c = search (needs, clear-way)
@@ -32,7 +32,7 @@ returns-3 : tie.Need-returns-3
 returns-3 c = search (needs, build-end)
 
 lowest-requires-3 : tie.Need-lowest-requires-3
-lowest-requires-3 c κs = search (needs, perched-may)
+lowest-requires-3 c κs = search (needs, loose-may)
 
 returns-4 : tie.Need-returns-4
 returns-4 c = search (needs, down-way)
@@ -40,18 +40,17 @@ returns-4 c = search (needs, down-way)
 returns-5 : tie.Need-returns-5
 returns-5 c = search (needs, loop-end)
 
-lowest-requires-4 : tie.Need-lowest-requires-4
-lowest-requires-4 c κs = search (needs, waiting-may)
-
 add-walk : tie.Need-add-walk
 add-walk c = search needs
 
 walk-requires : tie.Need-walk-requires
-walk-requires c κs =
-    walkable (c .before .before .before .before .before .before .before .before .before .before .before .before .before .before .before .before .before .before .before .before .before .before .before .before .pre) (c .before .before .before .before .before .before .before .before .before .if1 .left) (c .before .before .before .before .before .before .if3 .left) (c .before .before .before .before .if4 .left) (c .before .before .before .before .before .before .before .before .lowest2 .ensures) (c .before .before .before .before .before .before .before .if2 .left) (c .before .before .before .before .before .lowest3 .ensures) (c .before .before .lowest4 .ensures) (c .before .before .before .if5 .left)
+walk-requires c κs = search (needs, walkable)
 
 lowest-in-requires : tie.Need-lowest-in-requires
-lowest-in-requires c κs = span-within (c .before .before .before .before .before .before .before .before .before .before .before .before .before .before .before .before .before .before .before .before .before .before .before .before .before .before .before .before .before .before .pre) (c .before .before .before .before .before .walk .ensures) (search needs)
+lowest-in-requires c κs =
+    let a = c .before .before .before .before .before in
+    let start = a .before .before .before .before .before .before .before .before .before .before .before .before .before .before .before .before .before .before .before .before .before .before .before in
+    span-within (start .pre) (a .walk .ensures) (search needs)
 
 same-length : tie.Need-same-length
 same-length c = search needs
@@ -78,7 +77,6 @@ pick-spec =
     lowest-requires-3
     returns-4
     returns-5
-    lowest-requires-4
     add-walk
     walk-requires
     lowest-in-requires

@@ -67,47 +67,17 @@ slice-aggregate-solve-11 c = search needs
 slice-aggregate-solve-12 : tie.Need-slice-aggregate-solve-12
 slice-aggregate-solve-12 c = search needs
 
-slice-aggregate-solve-13 : tie.Need-slice-aggregate-solve-13
-slice-aggregate-solve-13 c = search needs
-
 solve-requires : tie.Need-solve-requires
-solve-requires c κs =
-    let x = c .before .before .before .before .before .before .before .before .before .before .before .before .before .before in
-    let q = x .before in
-    let k = q .before .before .before in
-    plannable _ (k .before .before .if1 .left) (k .before .if2 .left) (k .check .ensures) (q .before .enum-told .given .1) (q .if3 .left) (x .wide .ensures)
-    (search needs)
-    (search needs)
-    (search needs)
-    (search needs)
-    (search needs)
-    (search needs)
-    (search needs)
-    (search needs)
-    (search needs)
-    (search needs)
-    (search needs)
-    (search needs)
-    (search needs)
+solve-requires c κs = plannable _ (c .before .before .before .before .before .before .before .before .before .before .before .before .before .before .before .before .before .before .before .if1 .left) (c .before .before .before .before .before .before .before .before .before .before .before .before .before .before .before .before .before .before .if2 .left) (c .before .before .before .before .before .before .before .before .before .before .before .before .before .before .before .before .before .check .ensures) (c .before .before .before .before .before .before .before .before .before .before .before .before .before .before .before .enum-told .given .1) (c .before .before .before .before .before .before .before .before .before .before .before .before .before .before .if3 .left) (c .before .before .before .before .before .before .before .before .before .before .before .before .before .wide .ensures) (search needs) (search needs) (search needs) (search needs) (search needs) (search needs) (search needs) (search needs) (search needs) (search needs) (search needs) (search needs)
 
 changed-requires : tie.Need-changed-requires
-changed-requires c κs =
-    let q = c .before .before .before .before .before .before .before .before .before .before .before .before .before .before .before .before .before .before
-    .before .before .before .before .before .before .before .before .before .before .before .before .before in
-    let k = q .before .before .before in
-    same-size (k .check .ensures) (q .before .enum-told .given .1)
+changed-requires c κs = same-size (c .before .before .before .before .before .before .before .before .before .before .before .before .before .before .before .before .before .before .before .before .before .before .before .before .before .before .before .before .before .before .before .before .check .ensures) (c .before .before .before .before .before .before .before .before .before .before .before .before .before .before .before .before .before .before .before .before .before .before .before .before .before .before .before .before .before .before .enum-told .given .1)
 
 same-length : tie.Need-same-length
 same-length c = search needs
 
 returns-5 : tie.Need-returns-5
-returns-5 c =
-    let x = c .before .before .before .before .before .before .before .before .before .before .before .before .before .before .before .before .before .before
-    .before .before .before .before .before .before .before .before .before .before .before .before .before in
-    let q = x .before in
-    let k = q .before .before .before in
-    let a = c .before .before .before .before .before .before .before .before .before .before .before .before .before .before .before .before in
-    made-way _ (k .before .before .if1 .left) (k .before .if2 .left) (k .check .ensures) (q .before .enum-told .given .1) (q .if3 .left) (x .wide .ensures) (a .solve .ensures) (c .changed .ensures)
+returns-5 c = made-way _ (c .before .before .before .before .before .before .before .before .before .before .before .before .before .before .before .before .before .before .before .before .before .before .before .before .before .before .before .before .before .before .before .before .before .before .before .if1 .left) (c .before .before .before .before .before .before .before .before .before .before .before .before .before .before .before .before .before .before .before .before .before .before .before .before .before .before .before .before .before .before .before .before .before .before .if2 .left) (c .before .before .before .before .before .before .before .before .before .before .before .before .before .before .before .before .before .before .before .before .before .before .before .before .before .before .before .before .before .before .before .before .before .check .ensures) (c .before .before .before .before .before .before .before .before .before .before .before .before .before .before .before .before .before .before .before .before .before .before .before .before .before .before .before .before .before .before .before .enum-told .given .1) (c .before .before .before .before .before .before .before .before .before .before .before .before .before .before .before .before .before .before .before .before .before .before .before .before .before .before .before .before .before .before .if3 .left) (c .before .before .before .before .before .before .before .before .before .before .before .before .before .before .before .before .before .before .before .before .before .before .before .before .before .before .before .before .before .wide .ensures) (c .before .before .before .before .before .before .before .before .before .before .before .before .before .before .before .solve .ensures) (c .changed .ensures)
 
 pub plan-spec : {M : Type 1} → statement M
 plan-spec =
@@ -134,7 +104,6 @@ plan-spec =
     slice-aggregate-solve-10
     slice-aggregate-solve-11
     slice-aggregate-solve-12
-    slice-aggregate-solve-13
     solve-requires
     changed-requires
     same-length

@@ -1,24 +1,21 @@
 -- `fill_sets` meets its contract. The invariant: the sets hold their tests up to the block b, and nothing beyond it. Assumes nothing.
 use borrow.Author.Needs.{needs}
 use Prim.Native.Nat.{_-_}
-use Rattle.statuses.proofs.SetsLaws.{Filling, filling-begin, refreshable, count-small, filling-next, ready-long, perched-long, waiting-long, filling-end}
+use Rattle.statuses.proofs.SetsLaws.{Filling, filling-begin, refreshable, count-small, filling-next, ready-long, loose-long, filling-end}
 use Rattle.statuses.proofs.fill_sets.Statement.{statement}
 use Rattle.statuses.proofs.fill_sets.Tie as tie
 
 abbrev Inv-loop : tie.InvT-loop
-Inv-loop cur goal load stands ready₀ perched₀ waiting₀ n b₀ ready perched waiting b = Filling cur goal load stands n b ready perched waiting
+Inv-loop kind cur goal load stands ready₀ loose₀ n b₀ ready loose b = Filling kind cur goal load stands n b ready loose
 
 abbrev μ-loop : tie.MeasureT-loop
-μ-loop cur goal load stands ready₀ perched₀ waiting₀ n b₀ ready perched waiting b = n - b
+μ-loop kind cur goal load stands ready₀ loose₀ n b₀ ready loose b = n - b
 
 clear-requires : tie.Need-clear-requires Inv-loop μ-loop
 clear-requires c κs = search needs
 
 clear-requires-2 : tie.Need-clear-requires-2 Inv-loop μ-loop
 clear-requires-2 c κs = search needs
-
-clear-requires-3 : tie.Need-clear-requires-3 Inv-loop μ-loop
-clear-requires-3 c κs = search needs
 
 loop-holds : tie.Need-loop-holds Inv-loop μ-loop
 loop-holds c = search (needs, filling-begin)
@@ -27,9 +24,7 @@ add-b : tie.Need-add-b Inv-loop μ-loop
 add-b c = search (needs, count-small)
 
 refresh-requires : tie.Need-refresh-requires Inv-loop μ-loop
-refresh-requires c κs =
-    let a = c .before .before .before in
-    refreshable (a .before .loop .inv) (a .loop-test .taken)
+refresh-requires c κs = refreshable (c .before .before .before .loop .inv) (c .before .before .loop-test .taken)
 
 loop-less : tie.Need-loop-less Inv-loop μ-loop
 loop-less c = search needs
@@ -41,10 +36,7 @@ same-length : tie.Need-same-length Inv-loop μ-loop
 same-length c = search (needs, ready-long)
 
 same-length-2 : tie.Need-same-length-2 Inv-loop μ-loop
-same-length-2 c = search (needs, perched-long)
-
-same-length-3 : tie.Need-same-length-3 Inv-loop μ-loop
-same-length-3 c = search (needs, waiting-long)
+same-length-2 c = search (needs, loose-long)
 
 returns : tie.Need-returns Inv-loop μ-loop
 returns c = search (needs, filling-end)
@@ -57,7 +49,6 @@ fill-sets-spec =
     μ-loop
     clear-requires
     clear-requires-2
-    clear-requires-3
     loop-holds
     add-b
     refresh-requires
@@ -65,5 +56,4 @@ fill-sets-spec =
     loop-again
     same-length
     same-length-2
-    same-length-3
     returns)

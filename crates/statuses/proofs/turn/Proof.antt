@@ -1,20 +1,20 @@
 -- `turn` meets its contract: towers, standings, state, loads and sets, one after the other. Assumes nothing.
 use borrow.Author.Needs.{needs}
-use Rattle.statuses.proofs.TurnLaws.{shiftable, settleable, movable, turn-low, turn-within, moving, turned}
+use Rattle.statuses.proofs.TurnLaws.{movable, turn-low, turn-within, turn-scaled, moving, turned}
 use Rattle.statuses.proofs.turn.Statement.{statement}
 use Rattle.statuses.proofs.turn.Tie as tie
 
-shift-requires : tie.Need-shift-requires
-shift-requires c κs = search (needs, shiftable)
+trace-requires : tie.Need-trace-requires
+trace-requires c κs = search needs
 
 settle-requires : tie.Need-settle-requires
-settle-requires c κs = search (needs, settleable)
+settle-requires c κs = search needs
 
 sub-wide : tie.Need-sub-wide
 sub-wide c = search (needs, turn-low)
 
 mul-wide : tie.Need-mul-wide
-mul-wide c = search (needs, turn-within)
+mul-wide c = search (needs, turn-scaled)
 
 slice-read-wide : tie.Need-slice-read-wide
 slice-read-wide c = search (needs, turn-within)
@@ -26,10 +26,7 @@ make-move-requires : tie.Need-make-move-requires
 make-move-requires c κs = search (needs, movable)
 
 refresh-four-requires : tie.Need-refresh-four-requires
-refresh-four-requires c κs =
-    let d = c .before .before .before .before .before .before .before .before .before .before in
-    let e = d .before .before .before .before .before .before .before .before .before in
-    moving (e .before .before .before .before .before .before .before .before .before .before .before .before .before .before .before .before .before .before .before .before .before .before .before .before .pre) (d .before .before .before .wide .ensures) (d .make-move .ensures) (e .settle .ensures)
+refresh-four-requires c κs = moving (c .before .before .before .before .before .before .before .before .before .before .before .before .before .before .before .before .before .before .before .before .before .before .before .before .before .before .before .before .before .before .before .before .before .before .before .before .before .before .before .before .before .pre) (c .before .before .before .before .before .before .before .before .before .make-move .ensures) (c .before .before .before .before .before .before .before .before .before .before .before .before .before .before .before .before .settle .ensures) (c .before .before .before .before .before .before .before .before .before .before .before .before .wide .ensures)
 
 same-length : tie.Need-same-length
 same-length c = search needs
@@ -50,26 +47,19 @@ same-length-6 : tie.Need-same-length-6
 same-length-6 c = search needs
 
 same-length-7 : tie.Need-same-length-7
-same-length-7 c = c .before .before .before .before .before .before .before .before .before .before .before .before .before .before .before .before .before .before .before .before .before .before .before .before .before .before .before .before .before .before .before .before .before .before .shift .kept .1 .0
+same-length-7 c = search needs
 
 same-length-8 : tie.Need-same-length-8
-same-length-8 c = c .before .before .before .before .before .before .before .before .before .before .before .before .before .before .before .before .before .before .before .before .before .before .before .before .before .before .before .before .before .before .before .before .before .before .shift .kept .1 .1 .0
-
-same-length-9 : tie.Need-same-length-9
-same-length-9 c = search needs
+same-length-8 c = search needs
 
 returns : tie.Need-returns
-returns c =
-    let d = c .before .before .before .before .before .before .before .before .before .before .before .before .before .before .before .before .before in
-    let e = d .before .before .before .before .before .before .before .before .before in
-    let f = e .before .before .before .before .before .before .before .before in
-    turned (f .before .before .before .before .before .before .before .before .before .before .before .before .before .before .before .before .pre) (f .shift .ensures) (e .settle .ensures) (d .make-move .ensures) (c .before .before .before .before .before .before .refresh-four .ensures)
+returns c = turned (c .before .before .before .before .before .before .before .before .before .before .before .before .before .before .before .before .before .before .before .before .before .before .before .before .before .before .before .before .before .before .before .before .before .before .before .before .before .before .before .before .before .before .before .before .before .before .pre) (c .before .before .before .before .before .before .before .before .before .before .before .before .before .before .make-move .ensures) (c .before .before .before .before .before .before .before .before .before .before .before .before .before .before .before .before .before .before .before .before .before .settle .ensures) (c .before .before .before .before .before .before .before .before .before .before .before .before .before .before .before .before .before .before .before .before .before .before .before .before .before .before .before .before .before .before .trace .ensures) (c .before .before .before .before .refresh-four .ensures)
 
 pub turn-spec : {M : Type 1} → statement M
 turn-spec =
     tie.close
     (tie.spec
-    shift-requires
+    trace-requires
     settle-requires
     sub-wide
     mul-wide
@@ -85,5 +75,4 @@ turn-spec =
     same-length-6
     same-length-7
     same-length-8
-    same-length-9
     returns)
