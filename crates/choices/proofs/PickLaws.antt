@@ -65,6 +65,10 @@ module _ {kind : ℕ} {s g : State} {l gl st rd lo bt tp gb hi seen marks : List
   is-perched h e =
       e ∙ held-lowest (length s) (w .kept .known .small) (perched-held (w .kept .sets) h) (λ c q. beyond c (perched-reflects s g (problem .initial) c) (λ r. r .0 .0) q)
 
+  -- so where there is none and no block is ready, nothing is misplaced
+  pub perched-clean : {b : ℕ} → kind < 3 → NoneReady s g → b ≡ lowest (member lo) 4095 → b ≡ 0 → misplacedCount s g ≡ 0
+  perched-clean h still e z = none-perched problem still (perched-none problem (sym (is-perched h e) ∙ z))
+
   -- the marks still serve for one move more
   still-marked : Marks s seen marks (suc k)
   still-marked =

@@ -25,6 +25,17 @@ use Rattle.choices.proofs.WalkLaws.{lowest-on-loop}
 use Rattle.choices.proofs.PickLaws as pick
 use Rattle.deadlocks.specs.Looks.{Showable, Lookable, Looked, loopOf}
 
+-- nothing is misplaced, so there is no loop to write
+pub nothing : {s g : State} (out : List ℕ) → misplacedCount s g ≡ 0 → Looked s g out 0 out
+unfolding blockedPairs
+nothing {s} {g} out none = record { count = ap length (sym empty); written = by (loopOf s g) empty }
+  where
+    empty : loopOf s g ≡ []
+    empty = ap (λ t. cond t [] (onward s (loop s g))) (eq-eqb (misplacedCount s g) 0 none)
+
+    by : (m : List ℕ) → m ≡ [] → out ≡ overwrite (blockedPairs s g m) out
+    by m h = rw h refl
+
 module _ {s g : State} {l gl st rd lo bt tp gb hi seen marks : List ℕ} {k : ℕ} {out : List ℕ}
     (w : Lookable s g l gl st rd lo bt tp gb hi seen marks k out) where
   p : Problem s g
@@ -42,14 +53,7 @@ module _ {s g : State} {l gl st rd lo bt tp gb hi seen marks : List ℕ} {k : �
   module _ {start : ℕ} (e : start ≡ lowest (member lo) 4095) where
     -- nothing waits, so nothing is misplaced
     pub none-way : start ≡ 0 → Looked s g out 0 out
-    unfolding blockedPairs
-    none-way z =
-        let none : misplacedCount s g ≡ 0 = pick.start-none (w .kept) deep e z in
-        let empty : loopOf s g ≡ [] = ap (λ t. cond t [] (onward s (loop s g))) (eq-eqb (misplacedCount s g) 0 none) in
-        record { count = ap length (sym empty); written = wrote (loopOf s g) empty }
-      where
-        wrote : (m : List ℕ) → m ≡ [] → out ≡ overwrite (blockedPairs s g m) out
-        wrote m h = rw h refl
+    none-way z = nothing out (pick.start-none (w .kept) deep e z)
 
     module _ (n : start ≢ 0) where
       waits : Waiting s g start

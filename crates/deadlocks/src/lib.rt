@@ -108,7 +108,7 @@ fn seek(
 }
 
 // The same, with a list just long enough for the state: constructive moves on a copy of the state until none is left, and a look at what is then misplaced.
-// The moves need no towers; these are filled once, for the look.
+// The moves need no towers; these are filled once, for the look. Nothing ready and nothing perched: nothing is misplaced.
 fn seek_in(
     initial: &[u16],
     goal: &[u16],
@@ -164,6 +164,9 @@ fn seek_in(
         moves,
         0,
     );
+    if numberset::lowest(loose) == 0 {
+        return 0;
+    }
     statuses::fit(
         3,
         cur,

@@ -2,7 +2,7 @@
 use Prim.Native.Nat.{ℕ, _+_, _≤_, _<_}
 use mathlib.Core.Path.{_≡_, sym, ap, _∙_}
 use mathlib.Core.Logic.{_⊎_, inl, inr}
-use mathlib.Core.Bool.{Bool, false, cond}
+use mathlib.Core.Bool.{Bool, false, cond, true≢false}
 use mathlib.Core.List.{List}
 use native.Mathlib.Omega.{arith}
 use lib.ListN.{length}
@@ -13,7 +13,7 @@ use Rattle.blocks.specs.Tests.{readyᵇ}
 use Rattle.blocks.proofs.Reflect.{Reflects, to-false, decided, leb-reflects}
 use Rattle.blocks.proofs.PositionLaws.{misplaced-block, ready-reflects, perched-reflects, waiting-reflects}
 use Rattle.numberset.specs.Members.{member, Valid, Empty}
-use Rattle.statuses.specs.Kept.{looseᵇ, Known, Holds, Sets, Settable, Refreshable, Redone, Refreshed}
+use Rattle.statuses.specs.Kept.{looseᵇ, Known, Holds, Sets, Settable, Admissible, Redone, Refreshed}
 use Rattle.statuses.proofs.LooseLaws.{loose-by}
 use Rattle.statuses.proofs.RefreshLaws.{again}
 
@@ -81,12 +81,18 @@ filling-begin {kind} w er el e = record {
 }
 
 module _ {kind : ℕ} {s g : State} {l st rd lo : List ℕ} {n b : ℕ} (w : Filling kind s g l st n b rd lo) where
-  pub refreshable : b < n → Refreshable s g l st rd lo (b + 1)
-  refreshable h = record {
-    testable = record { known = w .known; high = omega (arith, w .all) };
-    ready = w .ready .valid;
-    loose = w .loose .valid;
-  }
+  pub admissible : b < n → Admissible kind s g l st rd lo (b + 1)
+  admissible h =
+      let low : b + 1 < 4096 = omega (arith, w .all, w .known .small) in
+      record {
+        offer = record {
+          testable = record { known = w .known; high = omega (arith, w .all) };
+          ready = w .ready .valid;
+          sound = λ e. absurd (true≢false (sym e ∙ w .ready .rest (b + 1) low (omega arith)));
+        };
+        loose = w .loose .valid;
+        sound = λ e. absurd (true≢false (sym e ∙ w .loose .rest (b + 1) low (omega arith)));
+      }
 
   pub count-small : n ≤ 4000
   count-small = omega (arith, w .all, w .known .small)

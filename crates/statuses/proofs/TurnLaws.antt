@@ -19,7 +19,7 @@ use Rattle.problem.specs.Known.{Movable, MovedTo}
 use Rattle.towers.specs.Towers.{Stands, Highs, Filled, Shiftable, Settleable, Raisable}
 use Rattle.statuses.specs.Kept.{looseᵇ, Known, Sets, Moving, Traceable, Traced, Turnable, Turned}
 use Rattle.statuses.proofs.SetsLaws.{no-ready, no-loose, table-outside}
-use Rattle.statuses.proofs.ChangeLaws.{loose-same, ready-same}
+use Rattle.statuses.proofs.ChangeLaws.{loose-same, ready-same, loose-stays, ready-stays}
 
 -- ---- the towers follow the move
 
@@ -87,6 +87,10 @@ module _ {kind : ℕ} {s g : State} {l gl st rd lo bt tp gb hi : List ℕ} {a x 
           old-high = omega (arith, long, old, problem .initial .entries a);
           ready = record { valid = w .kept .sets .ready .valid; same = λ b h n o p q. w .kept .sets .ready .same b h ∙ ready b n o p q (same? b 0) };
           loose = record { valid = w .kept .sets .loose .valid; same = λ b h n o. w .kept .sets .loose .same b h ∙ loose b n o (same? b 0) };
+          ready-sound = λ b h n r.
+              ap (λ v. readyᵇ v g b) (m .state) ∙ ready-stays problem (w .move) b n (sym (w .kept .sets .ready .same b h) ∙ r);
+          loose-sound = λ b h n r.
+              ap (λ v. looseᵇ kind v g b) (m .state) ∙ loose-stays problem (w .move) b n kind (sym (w .kept .sets .loose .same b h) ∙ r);
         }
       where
         old : u ≡ support s a

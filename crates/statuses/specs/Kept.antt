@@ -2,7 +2,7 @@
 use Prim.Native.Nat.{ℕ, _≤_, _<_}
 use mathlib.Core.Path.{_≡_}
 use mathlib.Core.Logic.{_≢_}
-use mathlib.Core.Bool.{Bool, cond}
+use mathlib.Core.Bool.{Bool, true, cond}
 use mathlib.Core.List.{List}
 use lib.Dec.{eqb, ltb}
 use lib.ListN.{length}
@@ -41,11 +41,18 @@ pub record Testable (s g : State) (l st : List ℕ) (b : ℕ) : Type 0 where
   pub known : Known s g l st
   pub high : b ≤ length s
 
--- The same, with the set of ready blocks to write it into, and with both sets.
+-- The same, with the set of ready blocks to put it into, or with both sets; b is in none in which it must not stay.
 pub record Offerable (s g : State) (l st rd : List ℕ) (b : ℕ) : Type 0 where
   pub testable : Testable s g l st b
   pub ready : Valid rd
+  pub sound : member rd b ≡ true → readyᵇ s g b ≡ true
 
+pub record Admissible (kind : ℕ) (s g : State) (l st rd lo : List ℕ) (b : ℕ) : Type 0 where
+  pub offer : Offerable s g l st rd b
+  pub loose : Valid lo
+  pub sound : member lo b ≡ true → looseᵇ kind s g b ≡ true
+
+-- The same, whether b is in them or not.
 pub record Refreshable (s g : State) (l st rd lo : List ℕ) (b : ℕ) : Type 0 where
   pub testable : Testable s g l st b
   pub ready : Valid rd
@@ -71,7 +78,7 @@ pub record NearlyLoose (l : List ℕ) (test : ℕ → Bool) (a u : ℕ) : Type 0
   pub valid : Valid l
   pub same : (b : ℕ) → b < 4096 → b ≢ a → (b ≡ u → u ≡ 0) → member l b ≡ test b
 
--- The sets after a move of a from u, before the four blocks are decided anew.
+-- The sets after a move of a from u, before the four blocks are decided anew. A block other than a stays ready, and stays loose.
 pub record Moving (kind : ℕ) (s g : State) (l gl st rd lo : List ℕ) (a u : ℕ) : Type 0 where
   pub known : Known s g l st
   pub goal-loads : Loads g gl
@@ -80,6 +87,8 @@ pub record Moving (kind : ℕ) (s g : State) (l gl st rd lo : List ℕ) (a u : �
   pub old-high : u ≤ length s
   pub ready : NearlyReady rd (readyᵇ s g) g a u
   pub loose : NearlyLoose lo (looseᵇ kind s g) a u
+  pub ready-sound : (b : ℕ) → b < 4096 → b ≢ a → member rd b ≡ true → readyᵇ s g b ≡ true
+  pub loose-sound : (b : ℕ) → b < 4096 → b ≢ a → member lo b ≡ true → looseᵇ kind s g b ≡ true
 
 -- The two sets can be filled.
 pub record Settable (s g : State) (l st rd lo : List ℕ) : Type 0 where

@@ -7,7 +7,7 @@ ghost use lib.Dec.{eqb};
 ghost use lib.ListN.{length, getD};
 ghost use Rattle.blocks.specs.State.{put};
 ghost use Rattle.blocks.specs.Tests.{readyᵇ, perchedᵇ, waitingᵇ};
-ghost use Rattle.statuses.specs.Kept.{looseᵇ, Sets, Testable, Offerable, Refreshable, Redone, Refreshed, Moving, Settable, Kept, Traceable, Traced, Turnable, Turned, Beginnable, Begun};
+ghost use Rattle.statuses.specs.Kept.{looseᵇ, Sets, Testable, Offerable, Admissible, Refreshable, Redone, Refreshed, Moving, Settable, Kept, Traceable, Traced, Turnable, Turned, Beginnable, Begun};
 ghost use Rattle.statuses.specs.Begins.{Listable, Listed, Towerable, Fittable};
 
 // Everything that a run of a kind keeps beside the initial state.
@@ -141,7 +141,7 @@ fn fill_sets(
     let mut b = 0;
     while b < n {
         b += 1;
-        refresh(kind, cur, goal, load, stands, ready, loose, b);
+        admit(kind, cur, goal, load, stands, ready, loose, b);
     }
 }
 
@@ -194,7 +194,8 @@ fn trace(
     towers::raise(cur, goal, roots, highs, a, x);
 }
 
-// Decides the tests that a move of a from u can have changed: of a, and whether the block that goes onto it in the goal is ready; the same for u, unless it is the table.
+// Decides the tests that a move of a from u can have changed: of a, and whether the block that goes onto it in the goal is ready; the same for u, unless it is
+// the table.
 fn refresh_four(
     kind: usize,
     cur: &[u16],
@@ -215,7 +216,7 @@ fn refresh_four(
     if u == 0 {
         return;
     }
-    refresh(kind, cur, goal, load, stands, ready, loose, u);
+    admit(kind, cur, goal, load, stands, ready, loose, u);
     offer(cur, goal, load, stands, ready, onto(wanted, u));
 }
 
@@ -241,16 +242,40 @@ fn refresh(
     requires { ⌜ Refreshable (now cur) (now goal) (now load) (now stands) (now ready) (now loose) b ⌝ }
     ensures { λ r. ⌜ Refreshed kind (now (cur .entry)) (now (goal .entry)) b (now (ready .entry)) (now (loose .entry)) (now (ready .exit)) (now (loose .exit)) ⌝ }
 {
-    offer(cur, goal, load, stands, ready, b);
+    numberset::assign(ready, b, is_ready(cur, goal, load, stands, b));
     numberset::assign(loose, b, is_loose(kind, cur, goal, load, stands, b));
 }
 
-// Decides anew whether block b is ready.
+// The same for a block that is in no set in which it must not stay.
+fn admit(
+    kind: usize,
+    cur: &[u16],
+    goal: &[u16],
+    load: &[u16],
+    stands: &[u16],
+    ready: &mut [u64],
+    loose: &mut [u64],
+    b: usize,
+)
+    requires { ⌜ Admissible kind (now cur) (now goal) (now load) (now stands) (now ready) (now loose) b ⌝ }
+    ensures { λ r. ⌜ Refreshed kind (now (cur .entry)) (now (goal .entry)) b (now (ready .entry)) (now (loose .entry)) (now (ready .exit)) (now (loose .exit)) ⌝ }
+{
+    offer(cur, goal, load, stands, ready, b);
+    if !is_loose(kind, cur, goal, load, stands, b) {
+        return;
+    }
+    numberset::assign(loose, b, true);
+}
+
+// Puts block b into the set where it is ready. Where it is not, it is not in the set.
 fn offer(cur: &[u16], goal: &[u16], load: &[u16], stands: &[u16], ready: &mut [u64], b: usize)
     requires { ⌜ Offerable (now cur) (now goal) (now load) (now stands) (now ready) b ⌝ }
     ensures { λ r. ⌜ Redone (now (ready .entry)) b (readyᵇ (now (cur .entry)) (now (goal .entry)) b) (now (ready .exit)) ⌝ }
 {
-    numberset::assign(ready, b, is_ready(cur, goal, load, stands, b));
+    if !is_ready(cur, goal, load, stands, b) {
+        return;
+    }
+    numberset::assign(ready, b, true);
 }
 
 // Whether block b has a constructive move: it is misplaced and clear, and its goal support is in position and clear.

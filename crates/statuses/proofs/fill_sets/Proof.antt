@@ -1,7 +1,7 @@
 -- `fill_sets` meets its contract. The invariant: the sets hold their tests up to the block b, and nothing beyond it. Assumes nothing.
 use borrow.Author.Needs.{needs}
 use Prim.Native.Nat.{_-_}
-use Rattle.statuses.proofs.SetsLaws.{Filling, filling-begin, refreshable, count-small, filling-next, ready-long, loose-long, filling-end}
+use Rattle.statuses.proofs.SetsLaws.{Filling, filling-begin, admissible, count-small, filling-next, ready-long, loose-long, filling-end}
 use Rattle.statuses.proofs.fill_sets.Statement.{statement}
 use Rattle.statuses.proofs.fill_sets.Tie as tie
 
@@ -23,8 +23,8 @@ loop-holds c = search (needs, filling-begin)
 add-b : tie.Need-add-b Inv-loop μ-loop
 add-b c = search (needs, count-small)
 
-refresh-requires : tie.Need-refresh-requires Inv-loop μ-loop
-refresh-requires c κs = refreshable (c .before .before .before .loop .inv) (c .before .before .loop-test .taken)
+admit-requires : tie.Need-admit-requires Inv-loop μ-loop
+admit-requires c κs = admissible (c .before .before .before .loop .inv) (c .before .before .loop-test .taken)
 
 loop-less : tie.Need-loop-less Inv-loop μ-loop
 loop-less c = search needs
@@ -51,7 +51,7 @@ fill-sets-spec =
     clear-requires-2
     loop-holds
     add-b
-    refresh-requires
+    admit-requires
     loop-less
     loop-again
     same-length

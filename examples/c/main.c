@@ -1,0 +1,82 @@
+/* Sheets of document 01 through the library: their lifts, their deadlocks, a replay and a refusal. */
+#include <inttypes.h>
+#include <stdio.h>
+#include <stdlib.h>
+
+#include "topjeska.h"
+
+enum { MOST = 5 };
+
+typedef struct {
+    const char *name;
+    size_t n;
+    uint16_t now[MOST], goal[MOST];
+} sheet;
+
+static const sheet sheets[] = {
+    {"S2", 2, {2, 0}, {0, 1}},
+    {"S4", 4, {2, 0, 4, 0}, {4, 0, 2, 0}},
+    {"S5", 5, {2, 3, 0, 5, 0}, {5, 0, 0, 3, 2}},
+};
+
+/* Prints pairs, each with a space before it. */
+static void print_pairs(const uint16_t *pairs, uint64_t count, const char *between) {
+    if (count == 0)
+        printf(" none");
+    for (uint64_t i = 0; i < count; i++)
+        printf("%s %u%s%u", i == 0 ? "" : ",", pairs[2 * i], between, pairs[2 * i + 1]);
+    printf("\n");
+}
+
+/* Ends the program where a sheet of document 01 is refused. */
+static void accepted(uint64_t refusal, uint64_t place) {
+    if (refusal != 0) {
+        fprintf(stderr, "refused by question %" PRIu64 " at %" PRIu64 "\n", refusal, place);
+        exit(1);
+    }
+}
+
+/* Prints what the library says of a sheet. */
+static void show(const sheet *s) {
+    uint16_t lifts[4 * MOST], locked[2 * MOST];
+    topjeska_check_answer checked = topjeska_check(s->now, s->n, s->goal, s->n);
+    accepted(checked.refusal, checked.place);
+    topjeska_plan_answer plan =
+        topjeska_plan(2, s->now, s->n, s->goal, s->n, lifts, 4 * s->n);
+    accepted(plan.refusal, plan.place);
+    printf("%s lifts", s->name);
+    print_pairs(lifts, plan.count, "->");
+    printf("%s changed %" PRIu64 "\n", s->name, plan.changed);
+    topjeska_deadlock_answer deadlock =
+        topjeska_deadlock(s->now, s->n, s->goal, s->n, locked, 2 * s->n);
+    accepted(deadlock.refusal, deadlock.place);
+    printf("%s deadlock", s->name);
+    print_pairs(locked, deadlock.count, " ");
+    topjeska_replay_answer replay =
+        topjeska_replay(s->now, s->n, s->goal, s->n, lifts, 2 * plan.count);
+    accepted(replay.refusal, replay.place);
+    if (replay.verdict == 0)
+        printf("%s arrives\n", s->name);
+    else
+        printf("%s does not arrive: verdict %" PRIu64 "\n", s->name, replay.verdict);
+}
+
+int main(void) {
+    for (size_t i = 0; i < sizeof sheets / sizeof sheets[0]; i++)
+        show(&sheets[i]);
+
+    const sheet *s2 = &sheets[0];
+    uint16_t none[1] = {0};
+    topjeska_replay_answer replay = topjeska_replay(s2->now, s2->n, s2->goal, s2->n, none, 0);
+    accepted(replay.refusal, replay.place);
+    if (replay.verdict == 5)
+        printf("S2 without lifts: slab %" PRIu64 " differs\n", replay.place);
+    else
+        printf("S2 without lifts: verdict %" PRIu64 "\n", replay.verdict);
+
+    const uint16_t bad[] = {2, 1, 5}, ground[] = {0, 0, 0};
+    uint16_t space[12];
+    topjeska_plan_answer refused = topjeska_plan(1, bad, 3, ground, 3, space, 12);
+    printf("2 1 5: refused by question %" PRIu64 " at %" PRIu64 "\n", refused.refusal, refused.place);
+    return 0;
+}

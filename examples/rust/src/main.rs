@@ -1,0 +1,41 @@
+//! Sheets of document 01 through the library: their lifts, their deadlocks, a replay and a refusal.
+
+use topjeska::{check, deadlock, plan, replay, Method, Refusal, Verdict};
+
+fn main() -> Result<(), Refusal> {
+    let sheets: [(&str, &[u16], &[u16]); 3] = [
+        ("S2", &[2, 0], &[0, 1]),
+        ("S4", &[2, 0, 4, 0], &[4, 0, 2, 0]),
+        ("S5", &[2, 3, 0, 5, 0], &[5, 0, 0, 3, 2]),
+    ];
+    for (name, now, goal) in sheets {
+        check(now, goal)?;
+        let made = plan(Method::Gn1, now, goal)?;
+        println!("{name} lifts{}", listed(&made.moves, "->"));
+        println!("{name} changed {}", made.changed);
+        println!("{name} deadlock{}", listed(&deadlock(now, goal)?, " "));
+        match replay(now, goal, &made.moves)? {
+            Verdict::Arrives => println!("{name} arrives"),
+            other => println!("{name} does not arrive: {other:?}"),
+        }
+    }
+    let (_, now, goal) = sheets[0];
+    match replay(now, goal, &[])? {
+        Verdict::Elsewhere { block } => println!("S2 without lifts: slab {block} differs"),
+        other => println!("S2 without lifts: {other:?}"),
+    }
+    match plan(Method::Us, &[2, 1, 5], &[0, 0, 0]) {
+        Err(refusal) => println!("2 1 5: {refusal}"),
+        Ok(made) => println!("2 1 5: {made:?}"),
+    }
+    Ok(())
+}
+
+/// Pairs, each with a space before it.
+fn listed(pairs: &[[u16; 2]], between: &str) -> String {
+    if pairs.is_empty() {
+        return " none".into();
+    }
+    let text = |[a, b]: &[u16; 2]| format!(" {a}{between}{b}");
+    pairs.iter().map(text).collect::<Vec<_>>().join(",")
+}

@@ -1,0 +1,201 @@
+//! Problems that are hard in one way each, of any number of blocks.
+
+/// Two states of the same blocks.
+pub struct Problem {
+    pub initial: Vec<u16>,
+    pub goal: Vec<u16>,
+}
+
+/// A family's name and its problem of about n blocks.
+pub type Family = (&'static str, fn(usize) -> Problem);
+
+pub const FAMILIES: [Family; 13] = [
+    ("random-tall", |n| random(n, (n as f64).sqrt())),
+    ("random-low", |n| random(n, n as f64 / 2.0)),
+    ("reversed", reversed),
+    ("reversed-mixed", |n| mixed(reversed(n))),
+    ("one-tower", one_tower),
+    ("s4", |n| copies(n, &[2, 0, 4, 0], &[4, 0, 2, 0])),
+    ("s5", |n| copies(n, &[2, 3, 0, 5, 0], &[5, 0, 0, 3, 2])),
+    ("ring", |n| ring(n, 2)),
+    ("ring-mixed", |n| mixed(ring(n, 2))),
+    ("ring-tall", |n| ring(n, 10)),
+    ("waiting", waiting),
+    ("shifted", shifted),
+    ("turned", turned),
+];
+
+/// Marsaglia's xorshift generator.
+struct Random(u64);
+
+impl Random {
+    fn below(&mut self, bound: usize) -> usize {
+        self.0 ^= self.0 << 13;
+        self.0 ^= self.0 >> 7;
+        self.0 ^= self.0 << 17;
+        (self.0 % bound as u64) as usize
+    }
+
+    /// The numbers 1 to n in a random order.
+    fn order(&mut self, n: usize) -> Vec<u16> {
+        let mut order: Vec<u16> = (1..=n as u16).collect();
+        for i in (1..n).rev() {
+            order.swap(i, self.below(i + 1));
+        }
+        order
+    }
+}
+
+/// The state that has these towers, each from the bottom up.
+fn state(n: usize, towers: &[Vec<u16>]) -> Vec<u16> {
+    let mut state = vec![0; n];
+    for tower in towers {
+        for pair in tower.windows(2) {
+            state[usize::from(pair[1]) - 1] = pair[0];
+        }
+    }
+    state
+}
+
+/// Two random states with some count of towers each.
+fn random(n: usize, towers: f64) -> Problem {
+    let mut random = Random(0x9e37_79b9_7f4a_7c15 + n as u64);
+    let mut one = || {
+        let order = random.order(n);
+        let mut state = vec![0; n];
+        for pair in order.windows(2) {
+            if random.below(n) as f64 >= towers {
+                state[usize::from(pair[1]) - 1] = pair[0];
+            }
+        }
+        state
+    };
+    Problem {
+        initial: one(),
+        goal: one(),
+    }
+}
+
+/// The same problem with the blocks numbered at random.
+fn mixed(problem: Problem) -> Problem {
+    let n = problem.initial.len();
+    let mut names = vec![0];
+    names.extend(Random(0x2545_f491_4f6c_dd1d).order(n));
+    let rename = |state: &[u16]| {
+        let mut renamed = vec![0; n];
+        for (i, &support) in state.iter().enumerate() {
+            renamed[usize::from(names[i + 1]) - 1] = names[usize::from(support)];
+        }
+        renamed
+    };
+    Problem {
+        initial: rename(&problem.initial),
+        goal: rename(&problem.goal),
+    }
+}
+
+/// One tower that is to stand the other way up.
+fn reversed(n: usize) -> Problem {
+    let tower: Vec<u16> = (1..=n as u16).collect();
+    let other = tower.iter().rev().copied().collect();
+    Problem {
+        initial: state(n, &[tower]),
+        goal: state(n, &[other]),
+    }
+}
+
+/// Many towers into one.
+fn one_tower(n: usize) -> Problem {
+    let initial = random(n, (n as f64).sqrt()).initial;
+    let tower = Random(0xd134_2543_de82_ef95).order(n);
+    Problem {
+        initial,
+        goal: state(n, &[tower]),
+    }
+}
+
+/// A small problem repeated.
+fn copies(n: usize, initial: &[u16], goal: &[u16]) -> Problem {
+    let repeat = |small: &[u16]| {
+        let copy = |first: usize| {
+            let moved = move |&x: &u16| if x == 0 { 0 } else { x + first as u16 };
+            small.iter().map(moved)
+        };
+        let firsts = (0..n / small.len()).map(|k| k * small.len());
+        firsts.flat_map(copy).collect()
+    };
+    Problem {
+        initial: repeat(initial),
+        goal: repeat(goal),
+    }
+}
+
+/// Towers in a ring: all but the bottom of each goes, the other way up, onto the next one's bottom.
+fn ring(n: usize, height: usize) -> Problem {
+    let count = n / height;
+    let block = |tower: usize, level: usize| (level * count + tower % count + 1) as u16;
+    let mut now = Vec::new();
+    let mut goal = Vec::new();
+    for tower in 0..count {
+        now.push((0..height).map(|level| block(tower, level)).collect());
+        let foot = std::iter::once(block(tower + 1, 0));
+        goal.push(
+            foot.chain((1..height).rev().map(|level| block(tower, level)))
+                .collect(),
+        );
+    }
+    Problem {
+        initial: state(count * height, &now),
+        goal: state(count * height, &goal),
+    }
+}
+
+/// A quarter of the blocks wait, each for the next, in front of a tower of half of them whose top is
+/// always in its own way.
+fn waiting(n: usize) -> Problem {
+    let count = n / 4;
+    let mut now = Vec::new();
+    let mut goal = Vec::new();
+    for wait in 1..=count {
+        now.push(vec![(count + wait) as u16, wait as u16]);
+        goal.push(vec![(count + wait + 1) as u16, wait as u16]);
+    }
+    let tower: Vec<u16> = (2 * count as u16 + 1..=n as u16).collect();
+    goal.push(tower[1..].to_vec());
+    now.push(tower);
+    Problem {
+        initial: state(n, &now),
+        goal: state(n, &goal),
+    }
+}
+
+/// Ten towers; every block but the bottoms goes onto the tower beside its own, at its own level.
+fn shifted(n: usize) -> Problem {
+    let block = |tower: usize, level: usize| (level * 10 + tower % 10 + 1) as u16;
+    let towers = |lean: usize| -> Vec<Vec<u16>> {
+        let one = |t: usize| {
+            (0..n / 10)
+                .map(|level| block(t + level * lean, level))
+                .collect()
+        };
+        (0..10).map(one).collect()
+    };
+    Problem {
+        initial: state(n, &towers(0)),
+        goal: state(n, &towers(1)),
+    }
+}
+
+/// Towers of ten; each goes up by one, and its top becomes its bottom.
+fn turned(n: usize) -> Problem {
+    let order = Random(0x9fb2_1c65_1e98_df25).order(n);
+    let now: Vec<Vec<u16>> = order.chunks(10).map(<[u16]>::to_vec).collect();
+    let mut goal = now.clone();
+    for tower in &mut goal {
+        tower.rotate_right(1);
+    }
+    Problem {
+        initial: state(n, &now),
+        goal: state(n, &goal),
+    }
+}
