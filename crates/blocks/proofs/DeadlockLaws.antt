@@ -1,5 +1,5 @@
 -- Deadlocks under moves (steps 5, 6 and 8 of the argument): a move of a block outside a deadlock leaves it as it is, a constructive move lifts no
--- deadlocked block, and makes no deadlock. Source: Gupta and Nau (document 000), section 3; document 001, section 3.3. Assumes nothing.
+-- deadlocked block, and makes no deadlock. Source: Gupta and Nau (document 000), section 3; document 001, sections 3.1 and 3.2. Assumes nothing.
 use mathlib.Core.Path.{_≡_, sym, ap, _∙_, subst}
 use mathlib.Core.Logic.{_⊎_, inl, inr, _≢_}
 use mathlib.Core.Bool.{Bool}

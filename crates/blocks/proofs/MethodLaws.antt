@@ -1,5 +1,5 @@
 -- The three methods arrive (steps 9 to 12 of the argument): their runs, what they put down, where they end, and how many moves they write.
--- Source: document 001, sections 3.1 to 3.3. Assumes nothing.
+-- Source: document 001, sections 3.1 and 3.2. Assumes nothing.
 use mathlib.Core.Path.{_≡_, refl, sym, ap, _∙_, subst}
 use mathlib.Core.Logic.{_≢_}
 use mathlib.Core.List.{List, _++_}

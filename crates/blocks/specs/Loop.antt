@@ -1,5 +1,5 @@
--- The loop of a stalled state (document 01, "The loop"; document 001, section 3.3, the Δ sequence). Assumes nothing.
--- NoneReady: some block is misplaced and none has a constructive move.
+-- The loop of a stalled state (document 01, "The loop"; document 001, section 3.2, the Δ sequence). Assumes nothing.
+-- Stalled: some block is misplaced and none has a constructive move.
 use Prim.Native.Nat.{ℕ, zero, suc}
 use mathlib.Core.Bool.{Bool, false, cond, _||_}
 use mathlib.Core.List.{List, [], _∷_, _++_}

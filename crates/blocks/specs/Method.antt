@@ -1,4 +1,4 @@
--- The three methods and the deadlock test as functions (document 01, "The three methods"; document 001, sections 3.1 to 3.3). Assumes nothing.
+-- The three methods and the deadlock test as functions (document 01, "The three methods"; document 001, sections 3.1 and 3.2). Assumes nothing.
 use Prim.Native.Nat.{ℕ, zero, suc, _*_}
 use mathlib.Core.Bool.{cond}
 use mathlib.Core.List.{List, [], _∷_, _++_}

@@ -1,4 +1,4 @@
--- Problems, and the blocks that stand right (document 01, "The yard"; document 001, section 2.1).
+-- Problems, and the blocks that stand right (document 01, "The yard"; document 001, sections 2.1 and 3.1).
 -- Document 01 says sheet for problem, now for the initial state. Assumes nothing.
 use Prim.Native.Nat.{ℕ, _≤_}
 use mathlib.Core.Path.{_≡_}

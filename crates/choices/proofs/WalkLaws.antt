@@ -25,7 +25,7 @@ use Rattle.towers.specs.declared.Blocked.{Blocked}
 use Rattle.choices.specs.Choices.{Linked, Walkable, Walked, part}
 use Rattle.choices.specs.declared.Span.{Span}
 use Rattle.choices.specs.Visits.{FirstAt, LowestIn}
-use Rattle.choices.proofs.SpanLaws.{first-below, first-part}
+use Rattle.choices.proofs.SpanLaws.{first-below, first-part, lowest-block}
 
 -- the successor of a misplaced block can be found
 pub findable : {s g : State} {l gl bt tp gb hi : List ℕ} {b : ℕ} → Linked s g l gl bt tp gb hi → Misplaced s g b → Findable s g l gl bt tp gb hi b
@@ -178,7 +178,7 @@ finish {s} {g} {seen₀} {marks₀} {seen} {marks} {m} {b} {k} {x} {r} v e q f =
 pub lowest-on-loop : {s g : State} {seen marks : List ℕ} {m low : ℕ} {r : Span} → Problem s g → NoneReady s g → {b : ℕ} → Misplaced s g b
     → Walked s g seen marks m r → LowestIn (part seen r) low → low ≡ lowestOf s (loop s g)
 lowest-on-loop {s} {g} {seen} {marks} {m} {low} {r} p still x w f =
-    f .lowest s (λ i h. misplaced-block (p .same) (closed .waiting i h .0)) ∙ ap (lowestOf s) (w .found)
+    lowest-block s f (λ i h. misplaced-block (p .same) (closed .waiting i h .0)) ∙ ap (lowestOf s) (w .found)
   where
     closed : IsLoop s g (part seen r)
     closed = subst (IsLoop s g) (sym (w .found)) (loop-closed p still x)

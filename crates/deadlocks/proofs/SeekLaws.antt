@@ -36,11 +36,11 @@ none-ready {s} {g} p e = ready-none p (by (lowestReady s g) e)
 -- ---- the steps of `seek_in`
 
 module _ {s g : State} {cur l gl st rd lo bt tp gb hi seen marks moves out : List ℕ} (w : Seekable s g cur l gl st rd lo bt tp gb hi seen marks moves out)
-    {cur₁ l₁ gl₁ st₁ rd₁ lo₁ bt₁ tp₁ gb₁ hi₁ : List ℕ} (b : Begun 1 s g cur₁ l₁ gl₁ st₁ rd₁ lo₁ bt₁ tp₁ gb₁ hi₁) where
+    {cur₁ st₁ rd₁ lo₁ bt₁ tp₁ gb₁ hi₁ : List ℕ} (b : Begun 1 s g cur₁ l gl st₁ rd₁ lo₁ bt₁ tp₁ gb₁ hi₁) where
   whole : Problem s g
   whole = w .start .begin .problem .problem
 
-  pub first-steppable : {marks₁ : List ℕ} → Zeros marks₁ → length marks₁ ≡ length marks → Steppable 1 cur₁ g l₁ gl₁ st₁ rd₁ lo₁ bt₁ tp₁ gb₁ hi₁ seen marks₁ moves 0
+  pub first-steppable : {marks₁ : List ℕ} → Zeros marks₁ → length marks₁ ≡ length marks → Steppable 1 cur₁ g l gl st₁ rd₁ lo₁ bt₁ tp₁ gb₁ hi₁ seen marks₁ moves 0
   first-steppable z e = lent.first-steppable (w .start) b z e (w .move-room)
 
   module _ {k : ℕ} {t l₂ gl₂ st₂ rd₂ lo₂ bt₂ tp₂ gb₂ hi₂ seen₂ marks₂ moves₂ : List ℕ}

@@ -38,30 +38,30 @@ refusal {s} {g} {space} {k} {p} r =
 
 -- ---- the ways out
 
-accepted : {s g : State} {c : case.Checked} → problem.Checks s g c → c ≡ case.the-variants.Accepted → Accepted s g
-accepted {s} {g} w e = questions-accept s g .0 (sym (w .asked) ∙ ap problem.askedOf e)
+accepted : {s g : State} {c : case.Checked} {l gl st : List ℕ} → problem.Examines s g c l gl st → c ≡ case.the-variants.Accepted → Accepted s g
+accepted {s} {g} w e = questions-accept s g .0 (sym (w .checks .asked) ∙ ap problem.askedOf e)
 
-module _ {s g : State} (space : List ℕ) {c : case.Checked} (w : problem.Checks s g c) where
+module _ {s g : State} (space : List ℕ) {c : case.Checked} {l gl st : List ℕ} (w : problem.Examines s g c l gl st) where
   pub refused-way : {k p : ℕ} → c ≡ case.the-variants.Refused k p → TestsDeadlock s g space (Refused k p) space
-  refused-way {k} {p} e = refusal (DeadlockRefused.problem (questions-refuse s g k p .0 (sym (w .asked) ∙ ap problem.askedOf e)))
+  refused-way {k} {p} e = refusal (DeadlockRefused.problem (questions-refuse s g k p .0 (sym (w .checks .asked) ∙ ap problem.askedOf e)))
 
   module _ (e : c ≡ case.the-variants.Accepted) where
     pub room-way : length space < 2 * length s → TestsDeadlock s g space (Refused 10 0) space
     room-way h = refusal (DeadlockRefused.room (accepted w e) h)
 
     module _ (h : 2 * length s ≤ length space) where
-      pub testable : {cur l gl st rd lo bt tp gb hi seen marks moves : List ℕ} → 4000 ≤ length cur → 4001 ≤ length l → 4001 ≤ length gl → 4001 ≤ length st
-          → length rd ≡ 65 → length lo ≡ 65 → 4001 ≤ length bt → 4001 ≤ length tp → 4001 ≤ length gb → 4001 ≤ length hi
-          → 4000 ≤ length seen → 4001 ≤ length marks → 16000 ≤ length moves → Testable s g cur l gl st rd lo bt tp gb hi seen marks moves space
-      testable a b c d r₁ r₂ j k i o p q v =
+      pub testable : {cur rd lo bt tp gb hi seen marks moves : List ℕ} → 4000 ≤ length cur → length rd ≡ 65 → length lo ≡ 65 → 4001 ≤ length bt → 4001 ≤ length tp
+          → 4001 ≤ length gb → 4001 ≤ length hi → 4000 ≤ length seen → 4001 ≤ length marks → 16000 ≤ length moves
+          → Testable s g cur l gl st rd lo bt tp gb hi seen marks moves space
+      testable a r₁ r₂ j k i o p q v =
           record {
             lists =
                 record {
                   problem = accepted w e;
                   state-room = a;
-                  load-room = b;
-                  wanted-room = c;
-                  stand-room = d;
+                  loads = w .loads e;
+                  goal-loads = w .goal-loads e;
+                  standings = w .stands e;
                   ready-size = r₁;
                   loose-size = r₂;
                   bottom-room = j;

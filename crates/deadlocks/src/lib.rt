@@ -1,4 +1,4 @@
-// The deadlock test (document 01, "The deadlock test"; document 000, section 4; document 001, section 3.3).
+// The deadlock test (document 01, "The three methods", its last paragraph; document 000, section 2.2; document 001, section 3.2).
 ghost use mathlib.Core.Path.{_≡_};
 ghost use Rattle.blocks.specs.Loop.{loop, onward, blockedPairs};
 ghost use Rattle.blocks.specs.Answer.{overwrite};
@@ -17,7 +17,18 @@ pub enum Tested {
 pub fn deadlock(initial: &[u16], goal: &[u16], out: &mut [u16]) -> Tested
     ensures { λ r. ⌜ TestsDeadlock (now (initial .entry)) (now (goal .entry)) (now (out .entry)) r (now (out .exit)) ⌝ }
 {
-    let checked = problem::check(initial, goal);
+    let mut load = [0u16; 4001];
+    let mut wanted = [0u16; 4001];
+    let mut stands = [0u16; 4001];
+    let mut bottoms = [0u16; 4001];
+    let checked = problem::examine(
+        initial,
+        goal,
+        &mut load,
+        &mut wanted,
+        &mut stands,
+        &mut bottoms,
+    );
     if let Checked::Refused { number, place } = checked {
         return Tested::Refused { number, place };
     }
@@ -28,12 +39,8 @@ pub fn deadlock(initial: &[u16], goal: &[u16], out: &mut [u16]) -> Tested
         };
     }
     let mut cur = [0u16; 4000];
-    let mut load = [0u16; 4001];
-    let mut wanted = [0u16; 4001];
-    let mut stands = [0u16; 4001];
     let mut ready = [0u64; 65];
     let mut loose = [0u64; 65];
-    let mut bottoms = [0u16; 4001];
     let mut tops = [0u16; 4001];
     let mut roots = [0u16; 4001];
     let mut highs = [0u16; 4001];
@@ -45,7 +52,7 @@ pub fn deadlock(initial: &[u16], goal: &[u16], out: &mut [u16]) -> Tested
         goal,
         &mut cur,
         &mut load,
-        &mut wanted,
+        &wanted,
         &mut stands,
         &mut ready,
         &mut loose,
@@ -70,7 +77,7 @@ fn seek(
     goal: &[u16],
     cur: &mut [u16],
     load: &mut [u16],
-    wanted: &mut [u16],
+    wanted: &[u16],
     stands: &mut [u16],
     ready: &mut [u64],
     loose: &mut [u64],
@@ -114,7 +121,7 @@ fn seek_in(
     goal: &[u16],
     cur: &mut [u16],
     load: &mut [u16],
-    wanted: &mut [u16],
+    wanted: &[u16],
     stands: &mut [u16],
     ready: &mut [u64],
     loose: &mut [u64],
@@ -201,7 +208,7 @@ fn seek_in(
 }
 
 // Writes the loop of a state in which no block is ready, from its lowest block onward; answers how many blocks it has, 0 where nothing is misplaced.
-// The states and sets that are not read are only spoken of.
+// The test calls it only where something is perched; it does not rely on that. The lists that are not read are only spoken of.
 fn look(
     cur: &[u16],
     goal: &[u16],

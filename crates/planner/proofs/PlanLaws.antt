@@ -58,37 +58,36 @@ promised {m} {s} {g} {space} {r} {space′} {k} q v e by o =
 
 -- ---- the ways out of an asked method
 
-accepted : {s g : State} {c : case.Checked} → problem.Checks s g c → c ≡ case.the-variants.Accepted → Accepted s g
-accepted {s} {g} w e = questions-accept s g .0 (sym (w .asked) ∙ ap problem.askedOf e)
+accepted : {s g : State} {c : case.Checked} {l gl st : List ℕ} → problem.Examines s g c l gl st → c ≡ case.the-variants.Accepted → Accepted s g
+accepted {s} {g} w e = questions-accept s g .0 (sym (w .checks .asked) ∙ ap problem.askedOf e)
 
-pub same-size : {s g : State} {c : case.Checked} → problem.Checks s g c → c ≡ case.the-variants.Accepted → length g ≡ length s
+pub same-size : {s g : State} {c : case.Checked} {l gl st : List ℕ} → problem.Examines s g c l gl st → c ≡ case.the-variants.Accepted → length g ≡ length s
 same-size w e = accepted w e .problem .same
 
-module _ {m : ℕ} {s g : State} (space : List ℕ) {c : case.Checked} (low : 1 ≤ m) (high : m ≤ 3) (w : problem.Checks s g c) where
+module _ {m : ℕ} {s g : State} (space : List ℕ) {c : case.Checked} {l gl st : List ℕ} (low : 1 ≤ m) (high : m ≤ 3) (w : problem.Examines s g c l gl st) where
   method : IsMethod m
   method = record { low = low; high = high }
 
   pub refused-way : {k p : ℕ} → c ≡ case.the-variants.Refused k p → Plans m s g space (Refused k p) space
-  refused-way {k} {p} e = refusal (PlanRefused.problem method (questions-refuse s g k p .0 (sym (w .asked) ∙ ap problem.askedOf e)))
+  refused-way {k} {p} e = refusal (PlanRefused.problem method (questions-refuse s g k p .0 (sym (w .checks .asked) ∙ ap problem.askedOf e)))
 
   module _ (e : c ≡ case.the-variants.Accepted) where
     pub room-way : length space < 4 * length s → Plans m s g space (Refused 10 0) space
     room-way h = refusal (PlanRefused.room method (accepted w e) h)
 
     module _ (h : 4 * length s ≤ length space) {n : ℕ} (wide : n ≡ m) where
-      pub plannable : {cur l gl st rd lo bt tp gb hi seen marks : List ℕ} → 4000 ≤ length cur → 4001 ≤ length l → 4001 ≤ length gl → 4001 ≤ length st
-          → length rd ≡ 65 → length lo ≡ 65 → 4001 ≤ length bt → 4001 ≤ length tp → 4001 ≤ length gb → 4001 ≤ length hi
-          → 4000 ≤ length seen → 4001 ≤ length marks → Plannable n s g cur l gl st rd lo bt tp gb hi seen marks space
-      plannable a b c d r₁ r₂ j k i o p q =
+      pub plannable : {cur rd lo bt tp gb hi seen marks : List ℕ} → 4000 ≤ length cur → length rd ≡ 65 → length lo ≡ 65 → 4001 ≤ length bt → 4001 ≤ length tp
+          → 4001 ≤ length gb → 4001 ≤ length hi → 4000 ≤ length seen → 4001 ≤ length marks → Plannable n s g cur l gl st rd lo bt tp gb hi seen marks space
+      plannable a r₁ r₂ j k i o p q =
           record {
             method = rw wide method;
             lists =
                 record {
                   problem = accepted w e;
                   state-room = a;
-                  load-room = b;
-                  wanted-room = c;
-                  stand-room = d;
+                  loads = w .loads e;
+                  goal-loads = w .goal-loads e;
+                  standings = w .stands e;
                   ready-size = r₁;
                   loose-size = r₂;
                   bottom-room = j;

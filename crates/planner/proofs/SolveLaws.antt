@@ -48,16 +48,16 @@ fits out p q room short = front-written out (flat p) (omega (arith, twice q, roo
 -- ---- the steps of `solve_in`
 
 module _ {m : ℕ} {s g : State} {cur l gl st rd lo bt tp gb hi seen marks out : List ℕ} (w : Solvable m s g cur l gl st rd lo bt tp gb hi seen marks out)
-    {cur₁ l₁ gl₁ st₁ rd₁ lo₁ bt₁ tp₁ gb₁ hi₁ : List ℕ} (b : Begun m s g cur₁ l₁ gl₁ st₁ rd₁ lo₁ bt₁ tp₁ gb₁ hi₁) where
+    {cur₁ st₁ rd₁ lo₁ bt₁ tp₁ gb₁ hi₁ : List ℕ} (b : Begun m s g cur₁ l gl st₁ rd₁ lo₁ bt₁ tp₁ gb₁ hi₁) where
   whole : Problem s g
   whole = w .start .begin .problem .problem
 
-  pub first-steppable : {marks₁ : List ℕ} → Zeros marks₁ → length marks₁ ≡ length marks → Steppable m cur₁ g l₁ gl₁ st₁ rd₁ lo₁ bt₁ tp₁ gb₁ hi₁ seen marks₁ out 0
+  pub first-steppable : {marks₁ : List ℕ} → Zeros marks₁ → length marks₁ ≡ length marks → Steppable m cur₁ g l gl st₁ rd₁ lo₁ bt₁ tp₁ gb₁ hi₁ seen marks₁ out 0
   first-steppable z e = lent.first-steppable (w .start) b z e (w .room)
 
   -- the first loop of US
   pub clear-steppable : {marks₁ : List ℕ} → Zeros marks₁ → length marks₁ ≡ length marks → m ≡ 1
-      → Steppable 0 cur₁ g l₁ gl₁ st₁ rd₁ lo₁ bt₁ tp₁ gb₁ hi₁ seen marks₁ out 0
+      → Steppable 0 cur₁ g l gl st₁ rd₁ lo₁ bt₁ tp₁ gb₁ hi₁ seen marks₁ out 0
   clear-steppable z e n = steps-low (omega (arith, n)) (omega arith) (first-steppable z e)
 
   -- one run

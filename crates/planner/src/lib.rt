@@ -1,4 +1,4 @@
-// Planning by the three methods, and the deadlock test (document 01, "The three methods" and "The deadlock test").
+// Planning by the three methods (document 01, "The three methods"; document 001, section 3.2).
 ghost use Prim.Native.Nat.{_*_, _<_};
 ghost use Rattle.planner.specs.Answers.{Plans, Plannable, Solvable, Solved};
 use problem::Checked;
@@ -25,7 +25,18 @@ pub fn plan(method: u16, initial: &[u16], goal: &[u16], out: &mut [u16]) -> Plan
             place: 0,
         };
     }
-    let checked = problem::check(initial, goal);
+    let mut load = [0u16; 4001];
+    let mut wanted = [0u16; 4001];
+    let mut stands = [0u16; 4001];
+    let mut bottoms = [0u16; 4001];
+    let checked = problem::examine(
+        initial,
+        goal,
+        &mut load,
+        &mut wanted,
+        &mut stands,
+        &mut bottoms,
+    );
     if let Checked::Refused { number, place } = checked {
         return Planned::Refused { number, place };
     }
@@ -36,12 +47,8 @@ pub fn plan(method: u16, initial: &[u16], goal: &[u16], out: &mut [u16]) -> Plan
         };
     }
     let mut cur = [0u16; 4000];
-    let mut load = [0u16; 4001];
-    let mut wanted = [0u16; 4001];
-    let mut stands = [0u16; 4001];
     let mut ready = [0u64; 65];
     let mut loose = [0u64; 65];
-    let mut bottoms = [0u16; 4001];
     let mut tops = [0u16; 4001];
     let mut roots = [0u16; 4001];
     let mut highs = [0u16; 4001];
@@ -53,7 +60,7 @@ pub fn plan(method: u16, initial: &[u16], goal: &[u16], out: &mut [u16]) -> Plan
         goal,
         &mut cur,
         &mut load,
-        &mut wanted,
+        &wanted,
         &mut stands,
         &mut ready,
         &mut loose,
@@ -78,7 +85,7 @@ fn solve(
     goal: &[u16],
     cur: &mut [u16],
     load: &mut [u16],
-    wanted: &mut [u16],
+    wanted: &[u16],
     stands: &mut [u16],
     ready: &mut [u64],
     loose: &mut [u64],
@@ -121,7 +128,7 @@ fn solve_in(
     goal: &[u16],
     cur: &mut [u16],
     load: &mut [u16],
-    wanted: &mut [u16],
+    wanted: &[u16],
     stands: &mut [u16],
     ready: &mut [u64],
     loose: &mut [u64],

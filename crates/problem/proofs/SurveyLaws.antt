@@ -1,6 +1,6 @@
 -- The survey of a state: what each of its ways out answers to the three questions. Assumes nothing.
 use Prim.Native.Nat.{ℕ, _≤_, _<_}
-use mathlib.Core.Path.{_≡_, refl, sym, ap, _∙_}
+use mathlib.Core.Path.{_≡_, sym, ap, _∙_}
 use mathlib.Core.Logic.{_≢_}
 use mathlib.Core.Bool.{Bool, not, Bool·not-not}
 use mathlib.Core.List.{List, [], _∷_}
@@ -35,14 +35,15 @@ unfolding badSupport
 shared-fits {s} w h = place-fits (omega (arith, w .place-is, lowest-le (sharesᵇ s) (length s))) h
 
 -- the loads where question 5 is answered yes
-pub ready-to-climb : {s : State} {p q : ℕ} {l st : List ℕ} → length s ≤ 4000 → p ≡ badEntry s → p ≡ 0 → Filled s q l → q ≡ 0 → length s < length st → Climbable s s l st
-ready-to-climb small e z w y room =
-    record { small = small; entries = sym e ∙ z; carries = sym (w .place-is) ∙ y; same = refl; loads = w .loads y; room = room }
+pub ready-to-climb : {s g : State} {p q : ℕ} {l st : List ℕ} → length s ≤ 4000 → length g ≡ length s → p ≡ badEntry s → p ≡ 0 → Filled s q l → q ≡ 0 → length s < length st
+    → Climbable s g l st
+ready-to-climb small same e z w y room =
+    record { small = small; entries = sym e ∙ z; carries = sym (w .place-is) ∙ y; same = same; loads = w .loads y; room = room }
 
 -- what was not reached does not come down to the table
-pub unreached-is : {s : State} {st : List ℕ} {p : ℕ} → badEntry s ≡ 0 → Standings s s st → p ≡ lowest (λ b. eqb (getD st b 0) 0) (length s) → p ≡ ungrounded s
+pub unreached-is : {s g : State} {st : List ℕ} {p : ℕ} → badEntry s ≡ 0 → Standings s g st → p ≡ lowest (λ b. eqb (getD st b 0) 0) (length s) → p ≡ ungrounded s
 unfolding ungrounded
-unreached-is {s} {st} e w q =
+unreached-is {s} {g} {st} e w q =
     q ∙ lowest-ext (λ b. eqb (getD st b 0) 0) (λ b. not (groundedᵇ s b)) (length s) (λ b l h.
     sym (Bool·not-not (eqb (getD st b 0) 0))
     ∙ ap not (reflects-same (λ x. x) (λ x. x) (w .reached b l h) (grounded-reflects s (entries-yes s e) b h)))
@@ -59,37 +60,40 @@ no-at k p q qs e n = ap (no′ k) e ∙ ap (λ t. firstNo (asks k t q ∷ qs)) (
 yes-at : (k p : ℕ) (qs : List Question) → p ≡ 0 → firstNo qs ≡ firstNo (asksNone k p ∷ qs)
 yes-at k p qs e = ap (λ x. firstNo (asksNone k x ∷ qs)) (sym e)
 
-pub entry-way : {s : State} {p : ℕ} {l : List ℕ} → p ≡ badEntry s → p ≢ 0 → Surveyed s (Entry p) l
+pub entry-way : {s g : State} {p : ℕ} {l st : List ℕ} → p ≡ badEntry s → p ≢ 0 → Surveyed s g (Entry p) l st
 unfolding stateQuestions
-entry-way {s} {p} e n =
-    record { answer = λ k₁ k₂ k₃. no-at k₁ p (badEntry s) (asksNone k₂ (badSupport s) ∷ asksNone k₃ (ungrounded s) ∷ []) e n; loads = λ z. let y : _≡_ {A = ℕ} 0 1 = cc in absurd (omega arith) }
+entry-way {s} {g} {p} e n =
+    record { answer = λ k₁ k₂ k₃. no-at k₁ p (badEntry s) (asksNone k₂ (badSupport s) ∷ asksNone k₃ (ungrounded s) ∷ []) e n; loads = λ z. let y : _≡_ {A = ℕ} 0 1 = cc in absurd (omega arith); stands = λ z. let y : _≡_ {A = ℕ} 0 1 = cc in absurd (omega arith) }
 
-pub shared-way : {s : State} {p q : ℕ} {l : List ℕ} → p ≡ badEntry s → p ≡ 0 → Filled s q l → q ≢ 0 → Surveyed s (Shared q) l
+pub shared-way : {s g : State} {p q : ℕ} {l st : List ℕ} → p ≡ badEntry s → p ≡ 0 → Filled s q l → q ≢ 0 → Surveyed s g (Shared q) l st
 unfolding stateQuestions
-shared-way {s} {p} {q} e z w n =
+shared-way {s} {g} {p} {q} e z w n =
     record {
       answer = λ k₁ k₂ k₃. no-at k₂ q (badSupport s) (asksNone k₃ (ungrounded s) ∷ []) (w .place-is) n ∙ yes-at k₁ (badEntry s) (asksNone k₂ (badSupport s) ∷ asksNone k₃ (ungrounded s) ∷ []) (sym e ∙ z);
       loads = λ y. let x : _≡_ {A = ℕ} 0 1 = cc in absurd (omega arith);
+      stands = λ y. let x : _≡_ {A = ℕ} 0 1 = cc in absurd (omega arith);
     }
 
-pub floating-way : {s : State} {p q r : ℕ} {l l₁ st : List ℕ} → p ≡ badEntry s → p ≡ 0 → Filled s q l₁ → q ≡ 0 → Standings s s st
-    → r ≡ lowest (λ b. eqb (getD st b 0) 0) (length s) → r ≢ 0 → Surveyed s (Floating r) l
+pub floating-way : {s g : State} {p q r : ℕ} {l l₁ st : List ℕ} → p ≡ badEntry s → p ≡ 0 → Filled s q l₁ → q ≡ 0 → Standings s g st
+    → r ≡ lowest (λ b. eqb (getD st b 0) 0) (length s) → r ≢ 0 → Surveyed s g (Floating r) l st
 unfolding stateQuestions
-floating-way {s} {p} {q} {r} e z w y stands f n =
+floating-way {s} {g} {p} {q} {r} e z w y stands f n =
     record {
       answer =
           λ k₁ k₂ k₃. no-at k₃ r (ungrounded s) [] (unreached-is (sym e ∙ z) stands f) n ∙ yes-at k₂ (badSupport s) (asksNone k₃ (ungrounded s) ∷ []) (sym (w .place-is) ∙ y)
           ∙ yes-at k₁ (badEntry s) (asksNone k₂ (badSupport s) ∷ asksNone k₃ (ungrounded s) ∷ []) (sym e ∙ z);
       loads = λ x. let o : _≡_ {A = ℕ} 0 1 = cc in absurd (omega arith);
+      stands = λ x. let o : _≡_ {A = ℕ} 0 1 = cc in absurd (omega arith);
     }
 
-pub sound-way : {s : State} {p q r : ℕ} {l st : List ℕ} → p ≡ badEntry s → p ≡ 0 → Filled s q l → q ≡ 0 → Standings s s st
-    → r ≡ lowest (λ b. eqb (getD st b 0) 0) (length s) → r ≡ 0 → Surveyed s Sound l
+pub sound-way : {s g : State} {p q r : ℕ} {l st : List ℕ} → p ≡ badEntry s → p ≡ 0 → Filled s q l → q ≡ 0 → Standings s g st
+    → r ≡ lowest (λ b. eqb (getD st b 0) 0) (length s) → r ≡ 0 → Surveyed s g Sound l st
 unfolding stateQuestions
-sound-way {s} {p} {q} {r} e z w y stands f x =
+sound-way {s} {g} {p} {q} {r} e z w y stands f x =
     record {
       answer =
           λ k₁ k₂ k₃. yes-at k₃ (ungrounded s) [] (sym (unreached-is (sym e ∙ z) stands f) ∙ x) ∙ yes-at k₂ (badSupport s) (asksNone k₃ (ungrounded s) ∷ []) (sym (w .place-is) ∙ y)
           ∙ yes-at k₁ (badEntry s) (asksNone k₂ (badSupport s) ∷ asksNone k₃ (ungrounded s) ∷ []) (sym e ∙ z);
       loads = λ _. w .loads y;
+      stands = λ _. stands;
     }

@@ -5,7 +5,7 @@ use mathlib.Core.List.{List}
 use Rattle.blocks.specs.State.{State}
 use Rattle.blocks.specs.Question.{Asked, allYes, no′, firstNo, stateQuestions, problemQuestions}
 use Rattle.blocks.specs.Answer.{CheckAnswer, checkAnswer}
-use Rattle.problem.specs.Known.{Loads}
+use Rattle.problem.specs.Known.{Loads, Standings}
 use Rattle.problem.specs.declared.Checked.{Checked}
 use Rattle.problem.specs.declared.Checked.the-variants.{Accepted, Refused}
 use Rattle.problem.specs.declared.Fault.{Fault}
@@ -33,7 +33,15 @@ faultOf k₁ k₂ k₃ (Entry p) = no′ k₁ p
 faultOf k₁ k₂ k₃ (Shared p) = no′ k₂ p
 faultOf k₁ k₂ k₃ (Floating p) = no′ k₃ p
 
--- The survey of a state: the first fault, and the loads where there is none.
-pub record Surveyed (s : State) (r : Fault) (l : List ℕ) : Type 0 where
+-- The survey of a state on the way to a goal: the first fault; where there is none, the loads, and how the blocks stand.
+pub record Surveyed (s g : State) (r : Fault) (l st : List ℕ) : Type 0 where
   pub answer : (k₁ k₂ k₃ : ℕ) → faultOf k₁ k₂ k₃ r ≡ firstNo (stateQuestions k₁ k₂ k₃ s)
   pub loads : r ≡ Sound → Loads s l
+  pub stands : r ≡ Sound → Standings s g st
+
+-- The check of a problem over lent lists: where the problem is accepted they hold the loads of both states, and how the blocks stand.
+pub record Examines (s g : State) (r : Checked) (l gl st : List ℕ) : Type 0 where
+  pub checks : Checks s g r
+  pub loads : r ≡ Accepted → Loads s l
+  pub goal-loads : r ≡ Accepted → Loads g gl
+  pub stands : r ≡ Accepted → Standings s g st

@@ -9,7 +9,7 @@ ghost use Rattle.blocks.specs.Tests.{misplacedCount, changed};
 ghost use Rattle.blocks.specs.Question.{badEntry};
 ghost use Rattle.blocks.specs.Answer.{firstDifference};
 ghost use Rattle.problem.specs.Known.{Zeros, Fillable, Filled, standsAs, Standable, Climbable, Standings, Countable, Movable, MovedTo};
-ghost use Rattle.problem.specs.Checked.{askedOf, Checks, faultOf, Surveyed};
+ghost use Rattle.problem.specs.Checked.{askedOf, Checks, faultOf, Surveyed, Examines};
 
 // The answer to a check: accepted, or the number and place of the first "no".
 pub enum Checked {
@@ -20,6 +20,32 @@ pub enum Checked {
 // Questions 2 to 9, put to any two lists.
 pub fn check(initial: &[u16], goal: &[u16]) -> Checked
     ensures { λ r. ⌜ Checks (now (initial .entry)) (now (goal .entry)) r ⌝ }
+{
+    let mut load = [0u16; 4001];
+    let mut wanted = [0u16; 4001];
+    let mut stands = [0u16; 4001];
+    let mut spare = [0u16; 4001];
+    examine(
+        initial,
+        goal,
+        &mut load,
+        &mut wanted,
+        &mut stands,
+        &mut spare,
+    )
+}
+
+// The same over lent lists. Where the problem is accepted they hold the loads of both states, and how the blocks stand; what `spare` holds is not said.
+pub fn examine(
+    initial: &[u16],
+    goal: &[u16],
+    load: &mut [u16],
+    wanted: &mut [u16],
+    stands: &mut [u16],
+    spare: &mut [u16],
+) -> Checked
+    requires { ⌜ (4001 ≤ length (now load)) × (4001 ≤ length (now wanted)) × (4001 ≤ length (now stands)) × (4001 ≤ length (now spare)) ⌝ }
+    ensures { λ r. ⌜ Examines (now (initial .entry)) (now (goal .entry)) r (now (load .exit)) (now (wanted .exit)) (now (stands .exit)) ⌝ }
 {
     let n = initial.len();
     if 4000 < n {
@@ -34,11 +60,9 @@ pub fn check(initial: &[u16], goal: &[u16]) -> Checked
             place: 0,
         };
     }
-    let mut load = [0u16; 4001];
-    let mut stands = [0u16; 4001];
-    let fault = survey(initial, &mut load, &mut stands);
+    let fault = survey(initial, goal, load, stands);
     if let Fault::Sound = fault {
-        return answer(survey(goal, &mut load, &mut stands), 7, 8, 9);
+        return answer(survey(goal, goal, wanted, spare), 7, 8, 9);
     }
     answer(fault, 4, 5, 6)
 }
@@ -73,9 +97,9 @@ enum Fault {
 }
 
 // The three questions of one state. Where all are answered yes, `load` holds what rests on each block.
-fn survey(s: &[u16], load: &mut [u16], stands: &mut [u16]) -> Fault
-    requires { ⌜ (length (now s) ≤ 4000) × (length (now s) < length (now load)) × (length (now s) < length (now stands)) ⌝ }
-    ensures { λ r. ⌜ Surveyed (now (s .entry)) r (now (load .exit)) ⌝ }
+fn survey(s: &[u16], goal: &[u16], load: &mut [u16], stands: &mut [u16]) -> Fault
+    requires { ⌜ (length (now s) ≤ 4000) × (length (now goal) ≡ length (now s)) × (length (now s) < length (now load)) × (length (now s) < length (now stands)) ⌝ }
+    ensures { λ r. ⌜ Surveyed (now (s .entry)) (now (goal .entry)) r (now (load .exit)) (now (stands .exit)) ⌝ }
 {
     let p = bad_entry(s);
     if p != 0 {
@@ -85,7 +109,7 @@ fn survey(s: &[u16], load: &mut [u16], stands: &mut [u16]) -> Fault
     if p != 0 {
         return Fault::Shared(p as u16);
     }
-    climb(s, s, load, stands);
+    climb(s, goal, load, stands);
     let p = first_unreached(stands, s.len());
     if p != 0 {
         return Fault::Floating(p as u16);

@@ -29,9 +29,9 @@ run-plan {f = f} w h = running-end (record { end = w .ran .end; reached = w .ran
 
 -- the first run can begin
 module _ {kind : ℕ} {s g : State} {cur l gl st rd lo bt tp gb hi seen marks : List ℕ} (w : Startable s g cur l gl st rd lo bt tp gb hi seen marks)
-    {cur₁ l₁ gl₁ st₁ rd₁ lo₁ bt₁ tp₁ gb₁ hi₁ : List ℕ} (b : Begun kind s g cur₁ l₁ gl₁ st₁ rd₁ lo₁ bt₁ tp₁ gb₁ hi₁) where
+    {cur₁ st₁ rd₁ lo₁ bt₁ tp₁ gb₁ hi₁ : List ℕ} (b : Begun kind s g cur₁ l gl st₁ rd₁ lo₁ bt₁ tp₁ gb₁ hi₁) where
   pub first-steppable : {marks₁ out : List ℕ} → Zeros marks₁ → length marks₁ ≡ length marks → 4 * length s ≤ length out
-      → Steppable kind cur₁ g l₁ gl₁ st₁ rd₁ lo₁ bt₁ tp₁ gb₁ hi₁ seen marks₁ out 0
+      → Steppable kind cur₁ g l gl st₁ rd₁ lo₁ bt₁ tp₁ gb₁ hi₁ seen marks₁ out 0
   first-steppable z e room =
       let small = w .begin .problem .small in
       let short = twice (w .begin .problem .problem) in
@@ -63,9 +63,9 @@ module _ {s g : State} {cur l gl st rd lo bt tp gb hi seen marks : List ℕ} (w 
             record {
               problem = w .problem;
               state-size = sym part-length;
-              load-room = w .load-room;
-              wanted-room = w .wanted-room;
-              stand-room = w .stand-room;
+              loads = w .loads;
+              goal-loads = w .goal-loads;
+              standings = w .standings;
               ready-size = w .ready-size;
               loose-size = w .loose-size;
               bottom-room = w .bottom-room;

@@ -10,22 +10,17 @@ use lib.Dec.{eqb}
 use lib.ListN.{length, getD, set, length-set}
 use lib.Seq.{getD-set-same, getD-set-other}
 use Rattle.blocks.specs.State.{State}
-use Rattle.blocks.specs.Position.{Proper, Problem}
+use Rattle.blocks.specs.Position.{Proper}
 use Rattle.blocks.specs.Tests.{inPositionᵇ}
 use Rattle.blocks.proofs.Reflect.{from-false, to-true, eqb-reflects, reflects-same}
 use Rattle.blocks.proofs.PositionLaws.{position-reflects, position-table}
-use Rattle.blocks.proofs.QuestionLaws.{proper-yes}
-use Rattle.problem.specs.Known.{Loads, Fillable, Filled, Climbable, Standings}
+use Rattle.problem.specs.Known.{Fillable, Filled, Standings}
 use Rattle.towers.specs.Towers.{Stands, Highs, Climbed}
 use Rattle.towers.specs.Towers as towers
 use Rattle.statuses.specs.Kept.{Sets, Settable, Kept, Traced, Beginnable, Begun}
 use Rattle.statuses.specs.Begins.{Listable, Listed, Towerable, Fittable}
 
 -- ---- the lists of the blocks
-
--- a proper state has loads
-state-loads : {s : State} {l : List ℕ} {q : ℕ} → Proper s → Filled s q l → Loads s l
-state-loads {s} p f = f .loads (f .place-is ∙ proper-yes s p .1)
 
 -- every block comes down, so it stands 1 or 2; the table is put in position
 stands-from : {s g : State} {st : List ℕ} → Proper s → Standings s g st → Stands s g (set st 0 2)
@@ -51,45 +46,11 @@ stands-from {s} {g} {st} p w = record { room = omega (arith, length-set st 0 2, 
         ∙ two (getD st (suc i) 0) (marked (suc i) (omega arith) high) (w .small (suc i) (omega arith) high)
         ∙ ap (λ t. cond t 2 1) (reflects-same (λ x. x) (λ x. x) (w .right (suc i) (omega arith) high (p .grounded (suc i))) (position-reflects s g p (suc i)))
 
-module _ {s g : State} {cur l gl st : List ℕ} (w : Listable s g cur l gl st) where
-  problem : Problem s g
-  problem = w .problem .problem
-
-  pub fillable : Fillable s l
-  fillable = record { small = w .problem .small; entries = proper-yes s (problem .initial) .0; room = w .load-room }
-
-  pub goal-fillable : Fillable g gl
-  goal-fillable =
-      record {
-        small = omega (arith, problem .same, w .problem .small);
-        entries = proper-yes g (problem .goal) .0;
-        room = omega (arith, problem .same, w .wanted-room);
-      }
-
-  pub climbable : {l′ : List ℕ} {q : ℕ} → Filled s q l′ → Climbable s g l′ st
-  climbable f =
-      record {
-        small = w .problem .small;
-        entries = proper-yes s (problem .initial) .0;
-        carries = proper-yes s (problem .initial) .1;
-        same = problem .same;
-        loads = state-loads (problem .initial) f;
-        room = w .stand-room;
-      }
-
-  pub listed : {cur′ l′ gl′ st′ : List ℕ} {q r : ℕ} → cur′ ≡ s → Filled s q l′ → Filled g r gl′ → Standings s g st′ → Listed s g cur′ l′ gl′ (set st′ 0 2)
-  listed e f h k =
-      record {
-        state = e;
-        known =
-            record {
-              small = w .problem .small;
-              problem = problem;
-              loads = state-loads (problem .initial) f;
-              stands = stands-from (problem .initial) k;
-            };
-        goal-loads = state-loads (problem .goal) h;
-      }
+module _ {s g : State} {cur l st : List ℕ} (w : Listable s g cur l st) where
+  pub listed : {cur′ : List ℕ} → cur′ ≡ s → Listed s g cur′ l (set st 0 2)
+  listed e =
+      let p = w .problem .problem in
+      record { state = e; known = record { small = w .problem .small; problem = p; loads = w .loads; stands = stands-from (p .initial) (w .standings) } }
 
 -- ---- the towers
 
@@ -156,24 +117,16 @@ module _ {s g : State} {l gl st rd lo bt tp gb hi : List ℕ} (w : Fittable s g 
 -- ---- all
 
 module _ {s g : State} {cur l gl st rd lo bt tp gb hi : List ℕ} (w : Beginnable s g cur l gl st rd lo bt tp gb hi) where
-  pub listable : Listable s g cur l gl st
-  listable =
-      let small = w .problem .small in
-      record {
-        problem = w .problem;
-        state-size = w .state-size;
-        load-room = omega (arith, small, w .load-room);
-        wanted-room = omega (arith, small, w .wanted-room);
-        stand-room = omega (arith, small, w .stand-room);
-      }
+  pub listable : Listable s g cur l st
+  listable = record { problem = w .problem; state-size = w .state-size; loads = w .loads; standings = w .standings }
 
-  module _ {cur′ l′ gl′ st′ : List ℕ} (k : Listed s g cur′ l′ gl′ st′) where
-    pub fittable : Fittable s g l′ gl′ st′ rd lo bt tp gb hi
+  module _ {cur′ st′ : List ℕ} (k : Listed s g cur′ l st′) where
+    pub fittable : Fittable s g l gl st′ rd lo bt tp gb hi
     fittable =
         let small = w .problem .small in
         record {
           known = k .known;
-          goal-loads = k .goal-loads;
+          goal-loads = w .goal-loads;
           ready-size = w .ready-size;
           loose-size = w .loose-size;
           bottom-room = omega (arith, small, w .bottom-room);
@@ -182,6 +135,6 @@ module _ {s g : State} {cur l gl st rd lo bt tp gb hi : List ℕ} (w : Beginnabl
           high-room = omega (arith, small, w .high-room);
         }
 
-    pub begun : {kind : ℕ} {rd′ lo′ bt′ tp′ gb′ hi′ : List ℕ} → Kept kind s g l′ gl′ st′ rd′ lo′ bt′ tp′ gb′ hi′
-        → Begun kind s g cur′ l′ gl′ st′ rd′ lo′ bt′ tp′ gb′ hi′
+    pub begun : {kind : ℕ} {rd′ lo′ bt′ tp′ gb′ hi′ : List ℕ} → Kept kind s g l gl st′ rd′ lo′ bt′ tp′ gb′ hi′
+        → Begun kind s g cur′ l gl st′ rd′ lo′ bt′ tp′ gb′ hi′
     begun q = record { state = k .state; kept = q }

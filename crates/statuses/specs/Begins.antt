@@ -5,22 +5,20 @@ use mathlib.Core.List.{List}
 use lib.ListN.{length}
 use Rattle.blocks.specs.State.{State}
 use Rattle.blocks.specs.Position.{Accepted}
-use Rattle.problem.specs.Known.{Loads}
+use Rattle.problem.specs.Known.{Loads, Standings}
 use Rattle.statuses.specs.Kept.{Known}
 
--- An accepted problem, and room for the loads and for how the blocks stand.
-pub record Listable (s g : State) (cur l gl st : List ℕ) : Type 0 where
+-- A problem whose loads are known and how its blocks stand, and room for the state.
+pub record Listable (s g : State) (cur l st : List ℕ) : Type 0 where
   pub problem : Accepted s g
   pub state-size : length cur ≡ length s
-  pub load-room : length s < length l
-  pub wanted-room : length s < length gl
-  pub stand-room : length s < length st
+  pub loads : Loads s l
+  pub standings : Standings s g st
 
--- The state is copied, and its blocks and the goal's loads are known.
-pub record Listed (s g : State) (cur l gl st : List ℕ) : Type 0 where
+-- The state is copied, and its blocks are known.
+pub record Listed (s g : State) (cur l st : List ℕ) : Type 0 where
   pub state : cur ≡ s
   pub known : Known s g l st
-  pub goal-loads : Loads g gl
 
 -- What the towers are filled from, and room for them.
 pub record Towerable (s g : State) (l gl st bt tp gb hi : List ℕ) : Type 0 where

@@ -11,7 +11,7 @@ use Rattle.blocks.specs.Position.{Problem, Accepted}
 use Rattle.blocks.specs.Stall.{Moves}
 use Rattle.blocks.specs.Tests.{readyᵇ, perchedᵇ, waitingᵇ}
 use Rattle.numberset.specs.Members.{member, Valid}
-use Rattle.problem.specs.Known.{Loads}
+use Rattle.problem.specs.Known.{Loads, Standings}
 use Rattle.towers.specs.Towers.{Stands, Bottoms, Tops, Highs}
 
 -- A set of numbers below 4,096 whose members are those that pass the test.
@@ -130,13 +130,13 @@ pub record Turned (kind : ℕ) (s g : State) (a x : ℕ) (t l gl st rd lo bt tp 
   pub state : t ≡ put s a x
   pub kept : Kept kind t g l gl st rd lo bt tp gb hi
 
--- An accepted problem, and lists that are long enough for all that is to be kept.
+-- An accepted problem with its loads and how its blocks stand, and lists that are long enough for all that is to be kept.
 pub record Beginnable (s g : State) (cur l gl st rd lo bt tp gb hi : List ℕ) : Type 0 where
   pub problem : Accepted s g
   pub state-size : length cur ≡ length s
-  pub load-room : 4001 ≤ length l
-  pub wanted-room : 4001 ≤ length gl
-  pub stand-room : 4001 ≤ length st
+  pub loads : Loads s l
+  pub goal-loads : Loads g gl
+  pub standings : Standings s g st
   pub ready-size : length rd ≡ 65
   pub loose-size : length lo ≡ 65
   pub bottom-room : 4001 ≤ length bt

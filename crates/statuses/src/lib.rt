@@ -10,14 +10,14 @@ ghost use Rattle.blocks.specs.Tests.{readyᵇ, perchedᵇ, waitingᵇ};
 ghost use Rattle.statuses.specs.Kept.{looseᵇ, Sets, Testable, Offerable, Admissible, Refreshable, Redone, Refreshed, Moving, Settable, Kept, Traceable, Traced, Turnable, Turned, Beginnable, Begun};
 ghost use Rattle.statuses.specs.Begins.{Listable, Listed, Towerable, Fittable};
 
-// Everything that a run of a kind keeps beside the initial state.
+// Everything that a run of a kind keeps beside the initial state, from the loads and how the blocks stand.
 pub fn begin(
     kind: usize,
     initial: &[u16],
     goal: &[u16],
     cur: &mut [u16],
-    load: &mut [u16],
-    wanted: &mut [u16],
+    load: &[u16],
+    wanted: &[u16],
     stands: &mut [u16],
     ready: &mut [u64],
     loose: &mut [u64],
@@ -27,9 +27,9 @@ pub fn begin(
     highs: &mut [u16],
 )
     requires { ⌜ Beginnable (now initial) (now goal) (now cur) (now load) (now wanted) (now stands) (now ready) (now loose) (now bottoms) (now tops) (now roots) (now highs) ⌝ }
-    ensures { λ r. ⌜ Begun kind (now (initial .entry)) (now (goal .entry)) (now (cur .exit)) (now (load .exit)) (now (wanted .exit)) (now (stands .exit)) (now (ready .exit)) (now (loose .exit)) (now (bottoms .exit)) (now (tops .exit)) (now (roots .exit)) (now (highs .exit)) ⌝ }
+    ensures { λ r. ⌜ Begun kind (now (initial .entry)) (now (goal .entry)) (now (cur .exit)) (now (load .entry)) (now (wanted .entry)) (now (stands .exit)) (now (ready .exit)) (now (loose .exit)) (now (bottoms .exit)) (now (tops .exit)) (now (roots .exit)) (now (highs .exit)) ⌝ }
 {
-    begin_lists(initial, goal, cur, load, wanted, stands);
+    begin_lists(initial, goal, cur, load, stands);
     fit(
         kind,
         initial,
@@ -46,22 +46,12 @@ pub fn begin(
     );
 }
 
-// The state, the loads of both states, and how the blocks stand.
-fn begin_lists(
-    initial: &[u16],
-    goal: &[u16],
-    cur: &mut [u16],
-    load: &mut [u16],
-    wanted: &mut [u16],
-    stands: &mut [u16],
-)
-    requires { ⌜ Listable (now initial) (now goal) (now cur) (now load) (now wanted) (now stands) ⌝ }
-    ensures { λ r. ⌜ Listed (now (initial .entry)) (now (goal .entry)) (now (cur .exit)) (now (load .exit)) (now (wanted .exit)) (now (stands .exit)) ⌝ }
+// The state is copied, and the table is put in position. The goal and the loads are only spoken of.
+fn begin_lists(initial: &[u16], goal: &[u16], cur: &mut [u16], load: &[u16], stands: &mut [u16])
+    requires { ⌜ Listable (now initial) (now goal) (now cur) (now load) (now stands) ⌝ }
+    ensures { λ r. ⌜ Listed (now (initial .entry)) (now (goal .entry)) (now (cur .exit)) (now (load .entry)) (now (stands .exit)) ⌝ }
 {
     problem::copy(initial, cur);
-    problem::fill_load(initial, load);
-    problem::fill_load(goal, wanted);
-    problem::climb(initial, goal, load, stands);
     stands[0] = 2;
 }
 

@@ -1,8 +1,13 @@
 -- The exported answers are those of the library, case by case. Assumes nothing.
-use Prim.Native.Nat.{ℕ}
-use mathlib.Core.Path.{_≡_, sym, ap, _∙_}
+use Prim.Native.Nat.{ℕ, _≤_}
+use mathlib.Core.Path.{_≡_, refl, sym, ap, _∙_}
+use mathlib.Core.Logic.{_≢_}
 use mathlib.Core.List.{List}
+use native.Mathlib.Omega.{arith}
 use Rattle.blocks.specs.State.{State}
+use Rattle.blocks.specs.Question.{BadState, Refused}
+use Rattle.blocks.specs.Refusal.{PlanRefused, DeadlockRefused}
+use Rattle.blocks.proofs.Theorems.{theorems}
 use Rattle.blocks.specs.Answer.{checkAnswer, replayAnswer}
 use Rattle.problem.specs.Checked as problem
 use Rattle.problem.specs.declared.Checked as checked
@@ -25,24 +30,60 @@ module _ {s g : State} {c : checked.Checked} (w : problem.Checks s g c) where
 
 -- ---- planning
 
+-- no refusal has the number 0
+bad-number : {k₁ k₂ k₃ : ℕ} {s : State} {k p : ℕ} → 1 ≤ k₁ → 1 ≤ k₂ → 1 ≤ k₃ → BadState k₁ k₂ k₃ s k p → k ≢ 0
+bad-number a b c (BadState.entry l) z = omega (arith, a, z)
+bad-number a b c (BadState.shares n l) z = omega (arith, b, z)
+bad-number a b c (BadState.floats n m l) z = omega (arith, c, z)
+
+refused-number : {s g : State} {k p : ℕ} → Refused s g k p → k ≢ 0
+refused-number (Refused.long h) z = omega (arith, z)
+refused-number (Refused.uneven h n) z = omega (arith, z)
+refused-number (Refused.initial h e b) z = bad-number (omega arith) (omega arith) (omega arith) b z
+refused-number (Refused.goal h e i b) z = bad-number (omega arith) (omega arith) (omega arith) b z
+
+plan-number : {m : ℕ} {s g : State} {space : List ℕ} {k p : ℕ} → PlanRefused m s g space k p → k ≢ 0
+plan-number (PlanRefused.method n) z = omega (arith, z)
+plan-number (PlanRefused.problem i r) z = refused-number r z
+plan-number (PlanRefused.room i a h) z = omega (arith, z)
+plan-number (PlanRefused.noBlock i a h e) z = omega (arith, z)
+
 module _ {m : ℕ} {s g : State} {space : List ℕ} {r : planned.Planned} {space′ : List ℕ} (w : planner.Plans m s g space r space′) where
   pub plan-refused : {k p : ℕ} → r ≡ planned.the-variants.Refused k p → ExportsPlan m s g space (record { refusal = k; place = p; count = 0; changed = 0 }) space′
-  plan-refused e = record { answer = ap planner.planOf (sym e) ∙ w .answer; lent = w .lent }
+  plan-refused {k} {p} e =
+      record {
+        answer = ap planner.planOf (sym e) ∙ w .answer;
+        lent = w .lent;
+        promise = λ z. absurd (plan-number (theorems .plan-refuses m s g space k p .0 (sym (w .asked) ∙ ap planner.askedOf e)) z);
+      }
 
   pub plan-made : {c d : ℕ} → r ≡ planned.the-variants.Made c d → ExportsPlan m s g space (record { refusal = 0; place = 0; count = c; changed = d }) space′
-  plan-made e = record { answer = ap planner.planOf (sym e) ∙ w .answer; lent = w .lent }
+  plan-made {c} {d} e = record { answer = ap planner.planOf (sym e) ∙ w .answer; lent = w .lent; promise = λ _. w .promise c d e }
 
 -- ---- the deadlock test
 
+deadlock-number : {s g : State} {space : List ℕ} {k p : ℕ} → DeadlockRefused s g space k p → k ≢ 0
+deadlock-number (DeadlockRefused.problem r) z = refused-number r z
+deadlock-number (DeadlockRefused.room a h) z = omega (arith, z)
+
 module _ {s g : State} {space : List ℕ} {r : tested.Tested} {space′ : List ℕ} (w : deadlocks.TestsDeadlock s g space r space′) where
   pub deadlock-refused : {k p : ℕ} → r ≡ tested.the-variants.Refused k p → ExportsDeadlock s g space (record { refusal = k; place = p; count = 0 }) space′
-  deadlock-refused e = record { answer = ap deadlocks.answerOf (sym e) ∙ w .answer; lent = w .lent }
+  deadlock-refused {k} {p} e =
+      let n : k ≢ 0 = deadlock-number (theorems .deadlock-refuses s g space k p .0 (sym (w .asked) ∙ ap deadlocks.askedOf e)) in
+      record { answer = ap deadlocks.answerOf (sym e) ∙ w .answer; lent = w .lent; free = λ z _. absurd (n z); shown = λ z _. absurd (n z) }
 
   pub deadlock-free : r ≡ tested.the-variants.Free → ExportsDeadlock s g space (record { refusal = 0; place = 0; count = 0 }) space′
-  deadlock-free e = record { answer = ap deadlocks.answerOf (sym e) ∙ w .answer; lent = w .lent }
+  deadlock-free e =
+      record { answer = ap deadlocks.answerOf (sym e) ∙ w .answer; lent = w .lent; free = λ _ _. w .none e; shown = λ _ n. absurd (n refl) }
 
   pub deadlock-found : {c : ℕ} → r ≡ tested.the-variants.Deadlocked c → ExportsDeadlock s g space (record { refusal = 0; place = 0; count = c }) space′
-  deadlock-found e = record { answer = ap deadlocks.answerOf (sym e) ∙ w .answer; lent = w .lent }
+  deadlock-found {c} e =
+      record {
+        answer = ap deadlocks.answerOf (sym e) ∙ w .answer;
+        lent = w .lent;
+        free = λ _ z. let v = w .some c e in absurd (omega (arith, v .2 .deadlock .some, v .1, z));
+        shown = λ _ _. w .some c e;
+      }
 
 -- ---- replay
 

@@ -52,16 +52,16 @@ pub record Followable (s g : State) (l lifts : List ℕ) : Type 0 where
   pub same : length g ≡ length s
   pub even : length lifts % 2 ≡ 0
 
--- An accepted problem, a list of pairs, and lent lists that are long enough for any problem.
+-- An accepted problem with its loads, a list of pairs, and a lent list that is long enough for any state.
 pub record Judgeable (s g : State) (lifts cur l : List ℕ) : Type 0 where
   pub problem : Accepted s g
   pub even : length lifts % 2 ≡ 0
   pub state-room : 4000 ≤ length cur
-  pub load-room : 4001 ≤ length l
+  pub loads : Loads s l
 
 -- The same, with a list just long enough for the state.
 pub record JudgeableIn (s g : State) (lifts cur l : List ℕ) : Type 0 where
   pub problem : Accepted s g
   pub even : length lifts % 2 ≡ 0
   pub state-room : length cur ≡ length s
-  pub load-room : 4001 ≤ length l
+  pub loads : Loads s l

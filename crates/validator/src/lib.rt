@@ -1,6 +1,5 @@
 // Replay of a list of moves (document 01, "What is lent and written"): linear in the blocks and the list, memory fixed.
 ghost use mathlib.Core.Path.{_≡_};
-ghost use lib.ListN.{length};
 ghost use Rattle.blocks.specs.Question.{firstNo};
 ghost use Rattle.blocks.specs.Answer.{moveQuestions};
 ghost use Rattle.validator.specs.Replayed.{faultOf, Replays, Follows, Judgeable, JudgeableIn, Current, Followable};
@@ -16,7 +15,18 @@ pub enum Replayed {
 pub fn validate(initial: &[u16], goal: &[u16], lifts: &[u16]) -> Replayed
     ensures { λ r. ⌜ Replays (now (initial .entry)) (now (goal .entry)) (now (lifts .entry)) r ⌝ }
 {
-    let checked = problem::check(initial, goal);
+    let mut load = [0u16; 4001];
+    let mut wanted = [0u16; 4001];
+    let mut stands = [0u16; 4001];
+    let mut spare = [0u16; 4001];
+    let checked = problem::examine(
+        initial,
+        goal,
+        &mut load,
+        &mut wanted,
+        &mut stands,
+        &mut spare,
+    );
     if let Checked::Refused { number, place } = checked {
         return Replayed::Refused { number, place };
     }
@@ -27,7 +37,6 @@ pub fn validate(initial: &[u16], goal: &[u16], lifts: &[u16]) -> Replayed
         };
     }
     let mut cur = [0u16; 4000];
-    let mut load = [0u16; 4001];
     judge(initial, goal, lifts, &mut cur, &mut load)
 }
 
@@ -58,7 +67,6 @@ fn judge_in(
     ensures { λ r. ⌜ Follows (now (initial .entry)) (now (goal .entry)) (now (lifts .entry)) r ⌝ }
 {
     problem::copy(initial, cur);
-    problem::fill_load(initial, load);
     follow(cur, goal, load, lifts)
 }
 

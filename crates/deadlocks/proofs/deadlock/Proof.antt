@@ -4,8 +4,20 @@ use Rattle.deadlocks.proofs.TestedLaws.{refused-way, room-way, testable
 use Rattle.deadlocks.proofs.deadlock.Statement.{statement}
 use Rattle.deadlocks.proofs.deadlock.Tie as tie
 
-check-requires : tie.Need-check-requires
-check-requires c κs = search needs
+slice-aggregate-examine : tie.Need-slice-aggregate-examine
+slice-aggregate-examine c = search needs
+
+slice-aggregate-examine-2 : tie.Need-slice-aggregate-examine-2
+slice-aggregate-examine-2 c = search needs
+
+slice-aggregate-examine-3 : tie.Need-slice-aggregate-examine-3
+slice-aggregate-examine-3 c = search needs
+
+slice-aggregate-examine-4 : tie.Need-slice-aggregate-examine-4
+slice-aggregate-examine-4 c = search needs
+
+examine-requires : tie.Need-examine-requires
+examine-requires c κs = search needs
 
 enum-known-checked : tie.Need-enum-known-checked
 enum-known-checked c = search needs
@@ -62,25 +74,29 @@ slice-aggregate-seek-13 : tie.Need-slice-aggregate-seek-13
 slice-aggregate-seek-13 c = search needs
 
 seek-requires : tie.Need-seek-requires
-seek-requires c κs = testable _ (c .before .before .before .before .before .before .before .before .before .before .before .before .before .before .before .before .before .check .ensures) (c .before .before .before .before .before .before .before .before .before .before .before .before .before .before .before .enum-told .given .1) (c .before .before .before .before .before .before .before .before .before .before .before .before .before .before .if1 .left) (search needs) (search needs) (search needs) (search needs) (search needs) (search needs) (search needs) (search needs) (search needs) (search needs) (search needs) (search needs) (search needs)
+seek-requires c κs = testable _ (c .before .before .before .before .before .before .before .before .before .before .before .before .before .before .before .before .before .before .before .before .before .examine .ensures) (c .before .before .before .before .before .before .before .before .before .before .before .before .before .before .before .enum-told .given .1) (c .before .before .before .before .before .before .before .before .before .before .before .before .before .before .if1 .left) (search needs) (search needs) (search needs) (search needs) (search needs) (search needs) (search needs) (search needs) (search needs) (search needs)
 
 same-length : tie.Need-same-length
 same-length c = search needs
 
 returns-3 : tie.Need-returns-3
-returns-3 c = free-way _ (c .before .before .before .before .before .before .before .before .before .before .before .before .before .before .before .before .before .before .before .before .before .before .before .before .before .before .before .before .before .before .before .before .before .before .check .ensures) (c .before .before .before .before .before .before .before .before .before .before .before .before .before .before .before .before .before .before .before .before .before .before .before .before .before .before .before .before .before .before .before .before .enum-told .given .1) (c .before .before .before .before .before .before .before .before .before .before .before .before .before .before .before .before .before .before .before .before .before .before .before .before .before .before .before .before .before .before .before .if1 .left) (c .before .before .before .before .before .before .before .before .before .before .before .before .before .before .before .before .seek .ensures) (c .if2 .taken)
+returns-3 c = free-way _ (c .before .before .before .before .before .before .before .before .before .before .before .before .before .before .before .before .before .before .before .before .before .before .before .before .before .before .before .before .before .before .before .before .before .before .before .before .before .examine .ensures) (c .before .before .before .before .before .before .before .before .before .before .before .before .before .before .before .before .before .before .before .before .before .before .before .before .before .before .before .before .before .before .before .enum-told .given .1) (c .before .before .before .before .before .before .before .before .before .before .before .before .before .before .before .before .before .before .before .before .before .before .before .before .before .before .before .before .before .before .if1 .left) (c .before .before .before .before .before .before .before .before .before .before .before .before .before .before .before .seek .ensures) (c .if2 .taken)
 
 same-length-2 : tie.Need-same-length-2
 same-length-2 c = search needs
 
 returns-4 : tie.Need-returns-4
-returns-4 c = shown-way _ (c .before .before .before .before .before .before .before .before .before .before .before .before .before .before .before .before .before .before .before .before .before .before .before .before .before .before .before .before .before .before .before .before .before .before .check .ensures) (c .before .before .before .before .before .before .before .before .before .before .before .before .before .before .before .before .before .before .before .before .before .before .before .before .before .before .before .before .before .before .before .before .enum-told .given .1) (c .before .before .before .before .before .before .before .before .before .before .before .before .before .before .before .before .before .before .before .before .before .before .before .before .before .before .before .before .before .before .before .if1 .left) (c .before .before .before .before .before .before .before .before .before .before .before .before .before .before .before .before .seek .ensures) (c .if2 .left)
+returns-4 c = shown-way _ (c .before .before .before .before .before .before .before .before .before .before .before .before .before .before .before .before .before .before .before .before .before .before .before .before .before .before .before .before .before .before .before .before .before .before .before .before .before .examine .ensures) (c .before .before .before .before .before .before .before .before .before .before .before .before .before .before .before .before .before .before .before .before .before .before .before .before .before .before .before .before .before .before .before .enum-told .given .1) (c .before .before .before .before .before .before .before .before .before .before .before .before .before .before .before .before .before .before .before .before .before .before .before .before .before .before .before .before .before .before .if1 .left) (c .before .before .before .before .before .before .before .before .before .before .before .before .before .before .before .seek .ensures) (c .if2 .left)
 
 pub deadlock-spec : {M : Type 1} → statement M
 deadlock-spec =
     tie.close
     (tie.spec
-    check-requires
+    slice-aggregate-examine
+    slice-aggregate-examine-2
+    slice-aggregate-examine-3
+    slice-aggregate-examine-4
+    examine-requires
     enum-known-checked
     returns
     enum-told

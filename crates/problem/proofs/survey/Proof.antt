@@ -7,8 +7,8 @@ use Rattle.problem.proofs.survey.Tie as tie
 bad-entry-requires : tie.Need-bad-entry-requires
 bad-entry-requires c κs = search needs
 
-cast-t8 : tie.Need-cast-t8
-cast-t8 c = search (needs, entry-fits)
+cast-t9 : tie.Need-cast-t9
+cast-t9 c = search (needs, entry-fits)
 
 returns : tie.Need-returns
 returns c = search (needs, entry-way)
@@ -16,8 +16,8 @@ returns c = search (needs, entry-way)
 fill-load-requires : tie.Need-fill-load-requires
 fill-load-requires c κs = search needs
 
-cast-t11 : tie.Need-cast-t11
-cast-t11 c = search (needs, shared-fits)
+cast-t12 : tie.Need-cast-t12
+cast-t12 c = search (needs, shared-fits)
 
 same-length : tie.Need-same-length
 same-length c = search needs
@@ -31,8 +31,8 @@ climb-requires c κs = search (needs, ready-to-climb)
 first-unreached-requires : tie.Need-first-unreached-requires
 first-unreached-requires c κs = search needs
 
-cast-t20 : tie.Need-cast-t20
-cast-t20 c = search (needs, floating-fits)
+cast-t21 : tie.Need-cast-t21
+cast-t21 c = search (needs, floating-fits)
 
 same-length-2 : tie.Need-same-length-2
 same-length-2 c = search needs
@@ -57,15 +57,15 @@ survey-spec =
     tie.close
     (tie.spec
     bad-entry-requires
-    cast-t8
+    cast-t9
     returns
     fill-load-requires
-    cast-t11
+    cast-t12
     same-length
     returns-2
     climb-requires
     first-unreached-requires
-    cast-t20
+    cast-t21
     same-length-2
     same-length-3
     returns-3

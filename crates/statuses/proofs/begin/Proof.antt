@@ -1,14 +1,14 @@
 -- `begin` meets its contract: the lists of the blocks, and then what the run keeps beside them. Assumes nothing.
 use borrow.Author.Needs.{needs}
-use Rattle.statuses.proofs.BeginLaws.{listable, fittable}
+use Rattle.statuses.proofs.BeginLaws.{fittable}
 use Rattle.statuses.proofs.begin.Statement.{statement}
 use Rattle.statuses.proofs.begin.Tie as tie
 
 begin-lists-requires : tie.Need-begin-lists-requires
-begin-lists-requires c κs = listable (c .before .before .before .before .before .before .before .before .before .before .before .before .before .before .before .before .pre)
+begin-lists-requires c κs = search needs
 
 fit-requires : tie.Need-fit-requires
-fit-requires c κs = fittable (c .before .before .before .before .before .before .before .before .before .before .before .before .before .before .before .before .before .before .before .before .before .before .before .before .before .before .before .before .before .before .before .before .before .before .pre) (c .before .before .before .before .before .before .before .before .before .before .before .before .before .before .before .before .before .begin-lists .ensures)
+fit-requires c κs = fittable (c .before .before .before .before .before .before .before .before .before .before .before .before .before .before .before .before .before .before .before .before .before .before .before .before .before .before .pre) (c .before .before .before .before .before .before .before .before .before .before .before .begin-lists .ensures)
 
 same-length : tie.Need-same-length
 same-length c = search needs
@@ -34,12 +34,6 @@ same-length-7 c = search needs
 same-length-8 : tie.Need-same-length-8
 same-length-8 c = search needs
 
-same-length-9 : tie.Need-same-length-9
-same-length-9 c = search needs
-
-same-length-10 : tie.Need-same-length-10
-same-length-10 c = search needs
-
 returns : tie.Need-returns
 returns c = search needs
 
@@ -57,6 +51,4 @@ begin-spec =
     same-length-6
     same-length-7
     same-length-8
-    same-length-9
-    same-length-10
     returns)

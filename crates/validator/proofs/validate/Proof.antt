@@ -4,8 +4,20 @@ use Rattle.validator.proofs.ValidateLaws.{refused-way, odd-way, judged-
 use Rattle.validator.proofs.validate.Statement.{statement}
 use Rattle.validator.proofs.validate.Tie as tie
 
-check-requires : tie.Need-check-requires
-check-requires c κs = search needs
+slice-aggregate-examine : tie.Need-slice-aggregate-examine
+slice-aggregate-examine c = search needs
+
+slice-aggregate-examine-2 : tie.Need-slice-aggregate-examine-2
+slice-aggregate-examine-2 c = search needs
+
+slice-aggregate-examine-3 : tie.Need-slice-aggregate-examine-3
+slice-aggregate-examine-3 c = search needs
+
+slice-aggregate-examine-4 : tie.Need-slice-aggregate-examine-4
+slice-aggregate-examine-4 c = search needs
+
+examine-requires : tie.Need-examine-requires
+examine-requires c κs = search needs
 
 enum-known-checked : tie.Need-enum-known-checked
 enum-known-checked c = search needs
@@ -26,7 +38,7 @@ slice-aggregate-judge-2 : tie.Need-slice-aggregate-judge-2
 slice-aggregate-judge-2 c = search needs
 
 judge-requires : tie.Need-judge-requires
-judge-requires c κs = search (needs, judgeable)
+judge-requires c κs = judgeable (c .before .before .before .before .before .before .before .before .before .examine .ensures) (c .before .before .before .enum-told .given .1) (search needs) (search needs)
 
 returns-3 : tie.Need-returns-3
 returns-3 c = search (needs, judged-way)
@@ -35,7 +47,11 @@ pub validate-spec : {M : Type 1} → statement M
 validate-spec =
     tie.close
     (tie.spec
-    check-requires
+    slice-aggregate-examine
+    slice-aggregate-examine-2
+    slice-aggregate-examine-3
+    slice-aggregate-examine-4
+    examine-requires
     enum-known-checked
     returns
     enum-told

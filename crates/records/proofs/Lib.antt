@@ -1,0 +1,7 @@
+pub mod MarkLaws
+pub mod PlaceLaws
+pub mod ReadLaws
+pub mod EntryLaws
+pub mod WriteLaws
+pub mod RoundTrip
+pub mod Example

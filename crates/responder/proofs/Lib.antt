@@ -1,0 +1,9 @@
+pub mod SizeLaws
+pub mod MoveLaws
+pub mod BehindLaws
+pub mod AskLaws
+pub mod ReplyLaws
+pub mod Order
+pub mod InputBound
+pub mod AnswerBound
+pub mod Example

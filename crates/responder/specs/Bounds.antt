@@ -1,0 +1,20 @@
+-- How much of the input decides the answer, and how long an answer can be. Statements alone; `proofs/InputBound.antt` and
+-- `proofs/AnswerBound.antt` prove them. Assumes nothing.
+use Prim.Native.Nat.{ℕ, _≤_}
+use mathlib.Core.Path.{_≡_}
+use mathlib.Core.List.{List}
+use lib.ListN.{length, take}
+use Rattle.responder.specs.Responses.{responseTo}
+use Rattle.responder.specs.Answers.{longest}
+
+-- A byte more than the longest input without a tail: HD, 4,000 NW and 4,000 GL records.
+abbrev pub enough : ℕ
+enough = 32007
+
+-- The answer to an input is the answer to its first 32,007 bytes.
+abbrev pub Enough : Type 0
+Enough = (bytes : List ℕ) → responseTo (take enough bytes) ≡ responseTo bytes
+
+-- Every answer has at most 48,006 bytes.
+abbrev pub Fits : Type 0
+Fits = (bytes : List ℕ) → length (responseTo bytes) ≤ longest

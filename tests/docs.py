@@ -1,0 +1,492 @@
+"""Holds the pages of docs/ and the tools of tools/ to what they speak of.
+
+docs/WHY.md: each theorem or law stands in the lines that the page names, each sheet has the lists and counts that the
+page states (by reading.py), each picture is what tools/draw makes of its sheet. docs/DEMANDS.md: each file, definition,
+function and must-fail edit that it names exists. tools/sheet: records, words, and what it says of a deadlock.
+With --write it corrects the line numbers of docs/WHY.md and draws the pictures again.
+"""
+
+import importlib.machinery
+import importlib.util
+import itertools
+import os
+import random
+import re
+import subprocess
+import sys
+import tempfile
+from collections.abc import Iterator
+from pathlib import Path
+from types import ModuleType
+from typing import NamedTuple
+
+import cases
+import reading
+
+ROOT = Path(__file__).resolve().parent.parent
+WHY = ROOT / "docs" / "WHY.md"
+DEMANDS = ROOT / "docs" / "DEMANDS.md"
+PICTURES = ROOT / "docs" / "pictures"
+THEOREMS = "crates/blocks/specs/Demands.antt"
+SEARCHED = 7
+
+# A test: what it holds, and what is wrong; empty when nothing is.
+Test = tuple[str, str]
+
+REFERENCE = re.compile(r"`([^`\s]+)`, `(crates/[^`:]+):(\d+)(?:-(\d+))?`")
+NAMES = r"[^\s(){}]+(?: [^\s(){}]+)*"
+DECLARED = re.compile(rf"( *)((?:(?:unfoldable|abbrev|pub) )*)(?:(record|data) (\S+) .*|({NAMES}) : .*)")
+TICKED = re.compile(r"`([^`]+)`")
+LIFT = re.compile(r"(\d+)→(\d+)")
+
+
+def text_of(path: Path) -> str:
+    """The text of a file."""
+    return path.read_text(encoding="utf-8")
+
+
+def tool(name: str) -> ModuleType:
+    """A program of tools/ as a module."""
+    loader = importlib.machinery.SourceFileLoader(f"tools_{name}", str(ROOT / "tools" / name))
+    spec = importlib.util.spec_from_loader(loader.name, loader)
+    assert spec is not None
+    module = importlib.util.module_from_spec(spec)
+    loader.exec_module(module)
+    return module
+
+
+draw, sheet = tool("draw"), tool("sheet")
+
+
+# ---- where things are declared
+
+
+class Declared(NamedTuple):
+    """A declaration: its name, the record or data type that it is a part of, and its first and last line."""
+
+    name: str
+    part_of: str
+    first: int
+    last: int
+
+
+def indent(line: str) -> int:
+    """How far a line stands in."""
+    return len(line) - len(line.lstrip(" "))
+
+
+def last_line(lines: list[str], start: int, name: str) -> int:
+    """The last line of a declaration that starts at an index: its type, its clauses and what stands further in."""
+    depth, last = indent(lines[start]), start
+    for number in range(start + 1, len(lines)):
+        line = lines[number]
+        if not line.strip():
+            continue
+        own = indent(line) == depth and line.split()[0] in (name, "unfolding")
+        if indent(line) <= depth and not own:
+            break
+        last = number
+    return last
+
+
+def declarations(path: Path) -> list[Declared]:
+    """What a file of definitions or laws declares: all at its margin, the parts of records, and what is public."""
+    lines = text_of(path).splitlines()
+    found: list[Declared] = []
+    part_of = ""
+    for number, line in enumerate(lines):
+        if line.strip() and indent(line) == 0:
+            part_of = ""
+        match = DECLARED.fullmatch(line)
+        if match is None or (len(match[1]) > 2 and "pub" not in match[2]):
+            continue
+        if match[4]:
+            part_of = match[4]
+            found.append(Declared(match[4], "", number + 1, last_line(lines, number, match[4]) + 1))
+        else:
+            for name in match[5].split():
+                found.append(Declared(name, part_of, number + 1, last_line(lines, number, name) + 1))
+    return found
+
+
+def at_place(file: str, name: str) -> list[Declared]:
+    """The declarations of a name, `Record.field` or plain, in a file."""
+    part_of, _, plain = name.rpartition(".")
+    return [d for d in declarations(ROOT / file) if d.name == plain and part_of in ("", d.part_of)]
+
+
+def lines_of(declared: Declared) -> str:
+    """The lines of a declaration as the page writes them."""
+    return f"{declared.first}" + (f"-{declared.last}" if declared.last > declared.first else "")
+
+
+# ---- docs/WHY.md: theorems and laws
+
+
+def misreferred(name: str, file: str, lines: str) -> str:
+    """What is wrong with a reference of the page."""
+    if not (ROOT / file).is_file():
+        return f"{file} does not exist"
+    places = [lines_of(declared) for declared in at_place(file, name)]
+    if not places:
+        return f"{file} declares no {name}"
+    return "" if lines in places else f"{name} stands in {file}:{' or '.join(places)}, the page says {lines}"
+
+
+def references() -> Iterator[Test]:
+    """The theorems and laws of the page, each step with a theorem at least, and no line number without a name."""
+    text = text_of(WHY)
+    for match in REFERENCE.finditer(text):
+        name, file, first, last = match.groups()
+        yield f"WHY.md, {name}", misreferred(name, file, first + (f"-{last}" if last else ""))
+    numbered = re.findall(r"^## (\d+)\.(.*?)(?=^## |\Z)", text, re.M | re.S)
+    yield "WHY.md, steps", "" if len(numbered) >= 7 else f"the page has {len(numbered)} numbered steps"
+    for number, step in numbered:
+        named = [file for _, file, _, _ in REFERENCE.findall(step)]
+        yield f"WHY.md, step {number}", "" if THEOREMS in named else f"names no theorem of {THEOREMS}"
+    loose = len(re.findall(r"\.(?:antt|rt|py)`?:\d", text)) - len(REFERENCE.findall(text))
+    yield "WHY.md, line numbers", f"{loose} stand behind no name" if loose else ""
+
+
+def corrected(text: str) -> str:
+    """The page with the lines where its theorems and laws stand."""
+
+    def again(match: re.Match[str]) -> str:
+        name, file = match[1], match[2]
+        places = at_place(file, name) if (ROOT / file).is_file() else []
+        return f"`{name}`, `{file}:{lines_of(places[0])}`" if len(places) == 1 else match[0]
+
+    return REFERENCE.sub(again, text)
+
+
+# ---- docs/WHY.md: sheets and pictures
+
+
+class Row(NamedTuple):
+    """A row of the page's table of sheets, as it is written."""
+
+    name: str
+    line: str
+    misplaced: str
+    pairs: str
+    lifts: str
+    counts: str
+    fewest: str
+
+
+def table(text: str, heading: str) -> list[list[str]]:
+    """The cells of the first table under a heading, its head left out."""
+    section = text.split(f"\n## {heading}\n", 1)[-1].split("\n## ", 1)[0]
+    rows = [line for line in section.splitlines() if line.startswith("|")]
+    return [[cell.strip() for cell in row.strip("|").split("|")] for row in rows[2:]]
+
+
+def rows() -> dict[str, Row]:
+    """The sheets of the page by their names."""
+    return {row[0]: Row(*row) for row in table(text_of(WHY), "The sheets of this page")}
+
+
+def told(pairs: list[reading.Pair], between: str) -> str:
+    """Pairs as the page writes them."""
+    return ", ".join(f"{first}{between}{second}" for first, second in pairs)
+
+
+def fewest(now: reading.Yard, goal: reading.Yard) -> int:
+    """The fewest lifts, by search; for more than a few slabs from both ends, because every lift can be taken back."""
+    if len(now) <= SEARCHED:
+        return reading.shortest(now, goal)
+    ends = [{tuple(now)}, {tuple(goal)}]
+    lifts = 0
+    while not ends[0] & ends[1]:
+        ends[lifts % 2] |= {after for yard in ends[lifts % 2] for after in reading.yards_after(yard)}
+        lifts += 1
+    return lifts
+
+
+def misstated(row: Row) -> str:
+    """Where a row differs from the reading."""
+    now, goal = draw.sheet_of(row.line.strip("`"))
+    n = len(now)
+    right = Row(
+        row.name,
+        row.line,
+        str(len(reading.misplaced(now, goal))),
+        told(reading.deadlock(now, goal, 2 * n)[3], " "),
+        told(reading.plan(2, now, goal, 4 * n)[4], "→"),
+        ", ".join(str(reading.plan(method, now, goal, 4 * n)[2]) for method in (1, 2, 3)),
+        str(fewest(now, goal)),
+    )
+    return "" if row == right else f"the page says {row[2:]}, the reading {right[2:]}"
+
+
+def sheets() -> Iterator[Test]:
+    """The page's sheets against the reading and document 01; the lists of its beliefs arrive and are longer."""
+    ours = dict.fromkeys((tuple(now), tuple(goal)) for now, goal, *_ in cases.SHEETS)
+    stated = {
+        f"S{number}": f"`{' '.join(map(str, now))} / {' '.join(map(str, goal))}`"
+        for number, (now, goal) in enumerate(ours, 1)
+    }
+    known = rows()
+    for name, row in known.items():
+        yield f"WHY.md, sheet {name}", misstated(row)
+        if re.fullmatch(r"S\d", name):
+            wrong = "" if stated.get(name) == row.line else f"document 01 has {stated.get(name)}"
+            yield f"WHY.md, sheet {name} of document 01", wrong
+    shown_lines = {line for line in TICKED.findall(text_of(WHY)) if re.fullmatch(r"[\d ]+/[\d ]+", line)}
+    other = shown_lines - {row.line.strip("`") for row in known.values()}
+    yield "WHY.md, sheets in the text", f"not in the table: {sorted(other)}" if other else ""
+    beliefs = table(text_of(WHY), "Beliefs that cost a lift")
+    yield "WHY.md, beliefs", "" if len(beliefs) == 4 else f"document 01 has 4, the page {len(beliefs)}"
+    for belief, name, shown in beliefs:
+        yield f"WHY.md, belief {belief}", "" if name in known else f"no sheet {name} in the table"
+        for listed in TICKED.findall(shown):
+            lifts = [int(number) for pair in LIFT.findall(listed) for number in pair]
+            now, goal = draw.sheet_of(known[name].line.strip("`"))
+            arrives = reading.replay(now, goal, lifts) == (0, 0, 0)
+            longer = len(lifts) // 2 > int(known[name].fewest)
+            yield f"WHY.md, list {listed}", "" if arrives and longer else "does not arrive, or costs no lift"
+
+
+def picture(name: str) -> str:
+    """What tools/draw makes for a picture's name: the sheet of that name, with `-lifts` its list too."""
+    row = {known.lower(): row for known, row in rows().items()}[name.removesuffix("-lifts")]
+    return draw.drawn(row.line.strip("`"), row.lifts if name.endswith("-lifts") else "")
+
+
+def linked() -> set[str]:
+    """The names of the pictures that the pages of docs/ show."""
+    pages = [text_of(page) for page in (ROOT / "docs").glob("*.md")]
+    return {name for page in pages for name in re.findall(r"\]\(pictures/([^)]+)\.svg\)", page)}
+
+
+def pictures() -> Iterator[Test]:
+    """Each picture as it is drawn again; none that no page shows."""
+    stored = {path.stem for path in PICTURES.iterdir()}
+    yield "pictures", f"no page shows {sorted(stored - linked())}" if stored - linked() else ""
+    yield "pictures of WHY.md", "" if linked() else "the pages show none"
+    for name in sorted(linked()):
+        path = PICTURES / f"{name}.svg"
+        same = path.is_file() and text_of(path) == picture(name)
+        yield f"picture {name}", "" if same else "is not what tools/draw makes; tests/docs.py --write draws it"
+
+
+# ---- docs/DEMANDS.md
+
+
+class Names:
+    """What the project declares, by crate."""
+
+    def __init__(self) -> None:
+        """Reads definitions, laws, functions, cases of enums, must-fail edits, and the functions of the tests."""
+        self.crates = {path.name for path in (ROOT / "crates").iterdir() if path.is_dir()}
+        self.modules: dict[str, set[str]] = {}
+        self.parts: set[tuple[str, str]] = set()
+        self.of: dict[str, set[str]] = {crate: set() for crate in self.crates}
+        self.functions: set[tuple[str, str]] = set()
+        self.theorems = {declared.name for declared in declarations(ROOT / THEOREMS) if declared.part_of}
+        for crate in sorted(self.crates):
+            self.read(crate)
+        self.tests = {
+            name
+            for path in [*(ROOT / "tests").glob("*.py"), *(ROOT / "tools").iterdir()]
+            if path.is_file()
+            for name in re.findall(r"^def (\w+)", text_of(path), re.M)
+        }
+
+    def read(self, crate: str) -> None:
+        """Adds what one crate declares."""
+        home = ROOT / "crates" / crate
+        for path in [*home.glob("specs/**/*.antt"), *home.glob("proofs/*.antt")]:
+            for declared in declarations(path):
+                self.of[crate].add(declared.name)
+                self.modules.setdefault(path.stem, set()).add(declared.name)
+                self.parts.add((declared.part_of, declared.name))
+        for path in home.glob("src/*.rt"):
+            text = text_of(path)
+            for name in re.findall(r"\bfn (\w+)", text):
+                self.functions.add((crate, name))
+                self.of[crate].add(name)
+            self.of[crate] |= set(re.findall(r"\b(?:enum|struct|const) (\w+)", text))
+            for kind, body in re.findall(r"\benum (\w+)[^{]*\{(.*?)\n\}", text, re.S):
+                self.parts |= {(kind, case) for case in re.findall(r"^\s+(\w+)", body, re.M)}
+            for kind, body in re.findall(r"\bimpl (\w+)[^{]*\{(.*?)\n\}", text, re.S):
+                self.parts |= {(kind, name) for name in re.findall(r"\bfn (\w+)", body)}
+        self.of[crate] |= {path.stem for path in home.glob("must-fail/*.edit")}
+
+    def known(self, name: str) -> bool:
+        """Whether a file, definition, function or edit of that name exists; of several words the files, or the first."""
+        if re.fullmatch(r"[\d\s/→,]+", name):
+            return True
+        files = [word for word in name.split() if "/" in word or re.search(r"\.(md|py|antt|rt|txt|h|c|rs)$", word)]
+        if files:
+            homes = (ROOT, ROOT / "crates" / "blocks", ROOT / "docs")
+            return all(any((home / file).exists() for home in homes) for file in files)
+        word = name.split()[0]
+        if "::" in word:
+            first, last = word.split("::", 1)
+            return (first, last) in self.functions or (first, last) in self.parts
+        first, dot, last = word.rpartition(".")
+        if dot and first:
+            return last in self.modules.get(first, ()) or (first, last) in self.parts
+        return any(word in names for names in (self.crates, self.modules, self.tests, *self.of.values()))
+
+
+def stray_theorems(cell: str, names: Names) -> list[str]:
+    """The names with a hyphen that stand neither in the file of theorems nor in the module named before them."""
+    module, stray = "", []
+    for name in TICKED.findall(cell):
+        first, dot, last = name.rpartition(".")
+        module = first if dot else module
+        if "-" in last and last not in names.theorems and last not in names.modules.get(module, ()):
+            stray.append(name)
+    return stray
+
+
+def misplaced_names(part: str, names: Names) -> list[str]:
+    """Of `a`, `b` in `crate` (or of `crate`) those that this crate does not have."""
+    wrong: list[str] = []
+    group: list[str] = []
+    for match in TICKED.finditer(part):
+        if match[1] in names.crates and re.search(r"\b(in|of) $", part[: match.start()]):
+            wrong += [f"{name} in {match[1]}" for name in group if name not in names.of[match[1]]]
+            group = group if re.match(r" and in `", part[match.end() :]) else []
+        else:
+            group.append(match[1])
+    return wrong
+
+
+def demands() -> Iterator[Test]:
+    """The lines of the page that name something: it exists, in the crate that is named, theorems in their file."""
+    names = Names()
+    for number, line in enumerate(text_of(DEMANDS).splitlines(), 1):
+        cells = line.split("|")
+        wrong = [name for name in TICKED.findall(line) if not names.known(name)]
+        wrong += [name for part in re.split("[;|]", line) for name in misplaced_names(part, names)]
+        wrong += [f"{name} in {THEOREMS}" for name in (stray_theorems(cells[3], names) if len(cells) > 4 else [])]
+        if "`" in line:
+            yield f"DEMANDS.md:{number}", f"does not exist: {', '.join(wrong)}" if wrong else ""
+
+
+# ---- tools/sheet
+
+# Document 01, "Records of the program": the whole example.
+ASKED = "48 44 00 02 00 02 4E 57 00 02 4E 57 00 00 47 4C 00 00 47 4C 00 01"
+TOLD = "50 4C 00 02 00 02 4C 46 00 01 00 00 4C 46 00 02 00 01"
+
+# Sheets that document 01 refuses: method, line, number and place, and what the words must have.
+REFUSED = [
+    (2, "2 1 5 / 0 0 0", "4 3", ["Is every now entry at most n?", "slab 3", "rests on 5 now"]),
+    (2, "0 1 1 / 0 0 0", "5 3", ["Does each slab carry at most one slab now?", "slab 3 rests on slab 1 now", "slab 2"]),
+    (2, "1 / 0", "6 1", ["Does every slab come down to the ground now?", "slab 1"]),
+    (2, "0 0 / 2 1", "9 1", ["Does every slab come down to the ground in the goal?", "1, 2, 1"]),
+    (4, "2 0 / 0 1", "1 0", ["is the method 1, 2 or 3?", "the method is 4"]),
+]
+
+# Lines that are no sheets, and what the message must say.
+UNREADABLE = [
+    ("2 x / 0 1", ["column 3", "now entry 2", "'x'"]),
+    ("2 0 / 0 -1", ["column 9", "goal entry 2", "'-1'"]),
+    ("2 0 / 0 65536", ["column 9", "goal entry 2", "'65536'"]),
+    ("2 0 0 1", ["column 8", "no '/'"]),
+    ("2 0 / 0 1 / 0", ["column 11", "second '/'"]),
+    ("2 0 / 0", ["column 8", "slab 2 has no goal entry"]),
+    ("2 0 / 0 1 0", ["column 11", "slab 3 has no now entry"]),
+]
+
+
+def run(command: list[str], program: Path | None = None) -> subprocess.CompletedProcess[str]:
+    """Runs a tool, with a program in the place of the built one."""
+    around = {**os.environ, **({"TOPJESKA_PLAN": str(program)} if program else {})}
+    line = [sys.executable, str(ROOT / "tools" / command[0]), *command[1:]]
+    return subprocess.run(line, capture_output=True, text=True, encoding="utf-8", env=around, check=False)
+
+
+def lacking(text: str, parts: list[str]) -> str:
+    """The parts that a text does not have."""
+    missing = [part for part in parts if part not in text]
+    return f"{missing} not in {text!r}" if missing else ""
+
+
+def misended(ended: subprocess.CompletedProcess[str], status: int, parts: list[str]) -> str:
+    """What is wrong with how a tool ended, and with what it printed."""
+    return f"ends with {ended.returncode}" if ended.returncode != status else lacking(ended.stdout + ended.stderr, parts)
+
+
+def stand_in(folder: Path, expected: str, answer: str) -> Path:
+    """A program that gives a fixed answer to one input, and nothing to any other."""
+    path = folder / "plan"
+    path.write_text(
+        f"#!{sys.executable}\nimport sys\n"
+        f"if sys.stdin.buffer.read() == bytes.fromhex({expected!r}):\n"
+        f"    sys.stdout.buffer.write(bytes.fromhex({answer!r}))\n"
+    )
+    path.chmod(0o755)
+    return path
+
+
+def words_on_deadlock() -> str:
+    """Where what tools/sheet says of a deadlock differs from the search for one, on small sheets by every method."""
+    rng = random.Random(cases.SEED)
+    some = itertools.chain(cases.small_problems(), (cases.random_problem(rng, 6, kind % 3) for kind in range(300)))
+    for (now, goal), method in itertools.product(some, (1, 2, 3)):
+        said = sheet.about_deadlock(method, reading.plan(method, now, goal, 4 * len(now))[4]).split()[0]
+        right = ("met:",) if reading.deadlocked(now, goal) else ("none",)
+        if said not in (*right, *(("not",) if method == 1 else ())):
+            return f"method {method}, {now} / {goal}: says {said}"
+    return ""
+
+
+def sheet_tool() -> Iterator[Test]:
+    """Records and words of tools/sheet: document 01's example and refusals, bad lines, a program that is not there."""
+    command = ["sheet", "plan", "2", "2 0 / 0 1"]
+    ended = run(["sheet", "records", *command[2:]])
+    yield "tools/sheet, records of the whole example", misended(ended, 0, [f"{ASKED}\n"])
+    with tempfile.TemporaryDirectory() as folder:
+        here = Path(folder)
+        ended = run(command, stand_in(here, ASKED, TOLD))
+        parts = ["1→0, 2→1", "lifts:        2", "changed:      2", "none at the start"]
+        yield "tools/sheet, words of the whole example", misended(ended, 0, parts)
+        for method, line, refusal, parts in REFUSED:
+            number, place = map(int, refusal.split())
+            answer = f"4E 4F {number:04X} {place:04X}"
+            program = stand_in(here, sheet.asked(method, sheet.sheet_of(line)).hex(), answer)
+            ended = run(["sheet", "plan", str(method), line], program)
+            yield f"tools/sheet, refusal of {line} by {method}", misended(ended, 1, [f"{number}, place {place}", *parts])
+        ended = run(command, stand_in(here, ASKED, TOLD[:-3]))
+        yield "tools/sheet, an answer cut short", misended(ended, 2, ["not understood", "byte 13"])
+        yield "tools/sheet, no program", misended(run(command, here / "none"), 2, ["not at", "TOPJESKA_PLAN"])
+    for line, parts in UNREADABLE:
+        yield f"tools/sheet, line {line}", misended(run(["sheet", "plan", "2", line]), 2, parts)
+    yield "tools/sheet, words on deadlock", words_on_deadlock()
+    if (ROOT / "crates" / "plan").is_dir():
+        yield from built_program()
+
+
+def built_program() -> Iterator[Test]:
+    """The words of tools/sheet on what the built program answers to the sheets of the page, by every method."""
+    for row, method in itertools.product(rows().values(), (1, 2, 3)):
+        now, goal = sheet.sheet_of(row.line.strip("`"))
+        _, _, count, changed, pairs = reading.plan(method, now, goal, 4 * len(now))
+        right = sheet.words(method, sheet.sheet_of(row.line.strip("`")), sheet.Answer(0, 0, count, changed, pairs))
+        ended = run(["sheet", "plan", str(method), row.line.strip("`")])
+        yield f"tools/sheet with the built program, {row.name} by {method}", misended(ended, 0, [right])
+
+
+def main() -> int:
+    """Runs all tests, or with --write corrects the page's line numbers and draws its pictures first."""
+    if sys.argv[1:] == ["--write"]:
+        WHY.write_text(corrected(text_of(WHY)), encoding="utf-8")
+        PICTURES.mkdir(exist_ok=True)
+        for name in linked():
+            (PICTURES / f"{name}.svg").write_text(picture(name), encoding="utf-8")
+    done = list(itertools.chain(references(), sheets(), pictures(), demands(), sheet_tool()))
+    for what, wrong in done:
+        if wrong:
+            print(f"{what}: {wrong}")
+    failed = sum(bool(wrong) for _, wrong in done)
+    print(f"{len(done) - failed} passed, {failed} failed")
+    return 1 if failed else 0
+
+
+if __name__ == "__main__":
+    sys.exit(main())
