@@ -4,8 +4,10 @@ What it should write comes from document 01's records read literally here, and f
 reading.py; full yards take their plans from the closed forms of cases.py. Each run has 512 KiB of stack.
 """
 
+import os
 import random
 import resource
+import signal
 import struct
 import subprocess
 import sys
@@ -59,6 +61,31 @@ def answer(data: bytes) -> bytes:
         return record(b"NO", 12, 2 * n + 1)
     number, place, _, differing, pairs = reading.plan(method, entries[:n], entries[n:], 4 * n)
     return record(b"NO", number, place) if number else written(differing, pairs)
+
+
+# Document 01's whole example, in and out.
+EXAMPLE = (
+    bytes.fromhex("48 44 00 02 00 02 4E 57 00 02 4E 57 00 00 47 4C 00 00 47 4C 00 01"),
+    bytes.fromhex("50 4C 00 02 00 02 4C 46 00 01 00 00 4C 46 00 02 00 01"),
+)
+
+
+def documents() -> Iterator[bytes]:
+    """The sheets of document 01, starred and others, and the trials, by every method and by numbers that are none."""
+    stated = [(now, goal) for now, goal, *_ in (*cases.SHEETS, *cases.COUNTS)]
+    refused = [([2, 1, 5], [0, 0, 0]), ([0, 1, 1], [0, 0, 0]), ([1], [0])]
+    for now, goal in (*stated, *cases.TRIALS, *refused):
+        yield from (sheet(method, now, goal) for method in (0, *cases.METHODS, 4, cases.TOP))
+
+
+def marred() -> Iterator[bytes]:
+    """A valid input cut at every byte, with each byte of each mark turned, and with one byte after its end."""
+    whole = sheet(3, [2, 3, 0, 5, 0], [5, 0, 0, 3, 2])
+    yield from (whole[:size] for size in range(len(whole) + 1))
+    for start in (0, *range(6, len(whole), 4)):
+        for at in (start, start + 1):
+            yield whole[:at] + bytes([whole[at] ^ 1]) + whole[at + 1 :]
+    yield from (whole + bytes([last]) for last in (0, 0x4E, 0xFF))
 
 
 def heads() -> Iterator[bytes]:
@@ -126,17 +153,43 @@ def run(data: bytes) -> bytes:
     return done.stdout if done.returncode == 0 else b""
 
 
+def slowly(data: bytes) -> bytes:
+    """What the program writes where its input comes a byte at a time."""
+    with subprocess.Popen([PROGRAM], stdin=subprocess.PIPE, stdout=subprocess.PIPE, bufsize=0) as program:
+        assert program.stdin is not None and program.stdout is not None
+        for byte in data:
+            program.stdin.write(bytes([byte]))
+        program.stdin.close()
+        return program.stdout.read()
+
+
+def unheard(data: bytes) -> bool:
+    """Whether the program ends where nobody reads its answer."""
+    read, write = os.pipe()
+    os.close(read)
+    with open(write, "wb") as closed:
+        done = subprocess.run([PROGRAM], input=data, stdout=closed, timeout=60)
+    return done.returncode in (0, -signal.SIGPIPE)
+
+
 def main() -> int:
     """Runs all inputs and counts those that are answered as they should be."""
     print(f"seed {SEED}")
-    inputs = [*heads(), *sheets(), *full()]
-    pairs = [*((data, answer(data)) for data in inputs), *plans()]
+    inputs = [*documents(), *marred(), *heads(), *sheets(), *full()]
+    pairs = [EXAMPLE, *((data, answer(data)) for data in inputs), *plans()]
     failed = 0
     for number, (data, told) in enumerate(pairs):
         if run(data) != told:
             print(f"input {number + 1}, {len(data)} bytes, is answered otherwise: {data[:40].hex()}")
             failed += 1
-    print(f"{len(pairs) - failed} passed, {failed} failed")
+    for told, name in (
+        (slowly(EXAMPLE[0]) == EXAMPLE[1], "the example a byte at a time"),
+        (unheard(pairs[-1][0]), "a full yard's plan into a closed pipe"),
+    ):
+        if not told:
+            print(f"{name} fails")
+            failed += 1
+    print(f"{len(pairs) + 2 - failed} passed, {failed} failed")
     return 1 if failed else 0
 
 

@@ -29,7 +29,7 @@ def at(line: str, column: int, what: str) -> Fault:
 
 def is_number(word: str) -> bool:
     """Whether a word is a number that a record's field of 2 bytes can hold."""
-    return word.isascii() and word.isdecimal() and int(word) <= TOP
+    return word.isascii() and word.isdecimal() and len(word.lstrip("0")) <= len(str(TOP)) and int(word) <= TOP
 
 
 def entries(line: str, first: int, last: int, name: str) -> list[int]:

@@ -1,4 +1,4 @@
--- Document 01's whole example, by computation. Assumes nothing.
+-- Document 01's whole example, and three more, by computation. Assumes nothing.
 use mathlib.Core.Path.{refl}
 use Rattle.blocks.specs.Search.{lowest, count}
 use Rattle.blocks.specs.Tests.{load, clearᵇ, groundedᵇ, agreesᵇ, inPositionᵇ, misplacedᵇ, waitingᵇ, readyᵇ, perchedᵇ, misplacedCount, changed}
@@ -8,8 +8,8 @@ use Rattle.blocks.specs.Answer.{planOutcome, planQuestions, planAnswer}
 use Rattle.records.specs.Marks.{marks, markOf}
 use Rattle.records.specs.Records.{hasRecord, fieldOf, recordAt, entriesAt, recordBytes}
 use Rattle.responder.specs.Responses.{sheetQuestions, sheetResponse, responseTo}
-use Rattle.responder.specs.Example.{Example}
+use Rattle.responder.specs.Example.{Examples}
 
-pub example : Example
+pub examples : Examples
 unfolding lowest count load clearᵇ groundedᵇ agreesᵇ inPositionᵇ misplacedᵇ waitingᵇ readyᵇ perchedᵇ misplacedCount changed iterate fuel lowestPerched lowestReady solving outcome badEntry sharesᵇ badSupport ungrounded stateQuestions problemQuestions planOutcome planQuestions planAnswer marks markOf hasRecord fieldOf recordAt entriesAt recordBytes sheetQuestions sheetResponse responseTo
-example = refl
+examples = record { whole = refl; planned = refl; refused = refl; behind = refl }

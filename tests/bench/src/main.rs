@@ -221,6 +221,13 @@ fn family((name, problem): Family) -> usize {
 
 fn main() -> ExitCode {
     let wished: Vec<String> = std::env::args().skip(1).collect();
+    if let Some(word) = wished
+        .iter()
+        .find(|w| FAMILIES.iter().all(|(name, _)| name != *w))
+    {
+        eprintln!("{word} is no family");
+        return ExitCode::FAILURE;
+    }
     println!("Microseconds a call, medians: the library, plain Rust, and their ratio.");
     println!(
         "Budget: ratio at most {RATIO} at 4,000 blocks; growth of the library from 2,000 to 4,000 at \
