@@ -19,6 +19,7 @@ import reading
 from reading import Pair, Yard
 
 PROGRAM = Path(__file__).resolve().parent.parent / "target" / "bin" / "plan"
+VECTORS = Path(__file__).resolve().parent / "vectors" / "program.txt"
 SEED = 12
 SHEETS = 200
 STACK = 512 * 1024
@@ -68,6 +69,13 @@ EXAMPLE = (
     bytes.fromhex("48 44 00 02 00 02 4E 57 00 02 4E 57 00 00 47 4C 00 00 47 4C 00 01"),
     bytes.fromhex("50 4C 00 02 00 02 4C 46 00 01 00 00 4C 46 00 02 00 01"),
 )
+
+
+def vectors() -> Iterator[tuple[bytes, bytes]]:
+    """Inputs with their outputs by another reading of document 01, a line each in hexadecimal; - is the empty input."""
+    for line in VECTORS.read_text().splitlines():
+        data, told = line.split()
+        yield bytes.fromhex(data.replace("-", "")), bytes.fromhex(told)
 
 
 def documents() -> Iterator[bytes]:
@@ -176,7 +184,7 @@ def main() -> int:
     """Runs all inputs and counts those that are answered as they should be."""
     print(f"seed {SEED}")
     inputs = [*documents(), *marred(), *heads(), *sheets(), *full()]
-    pairs = [EXAMPLE, *((data, answer(data)) for data in inputs), *plans()]
+    pairs = [EXAMPLE, *vectors(), *((data, answer(data)) for data in inputs), *plans()]
     failed = 0
     for number, (data, told) in enumerate(pairs):
         if run(data) != told:
