@@ -18,44 +18,43 @@ import signal
 import subprocess
 import sys
 import time
-from collections.abc import Callable, Iterable, Iterator, Sequence
+from collections.abc import Callable, Iterable, Iterator
 from pathlib import Path
 
-import reading
-from library import Case, Fault, Library, Outcome, case_of, line, listed, numbers_of, shared_object, written
+import promises
+import sheets
+from case import (
+    Answer,
+    Case,
+    by_all,
+    case_of,
+    flat,
+    line,
+    listed,
+    numbers_of,
+    operations,
+    paired,
+    planning,
+    read,
+    replaying,
+    testing,
+)
+from library import Fault, Library, Outcome, shared_object
+from reading import METHODS, MOST, TOP, Yard, deadlock_space, plan_space
+from sheets import Sheet, Walk
 
 ROOT = Path(__file__).resolve().parent.parent
 TARGET = ROOT / "target"
 FAILED = TARGET / "differential" / "failed.txt"
 SMALL = 8
-MOST = reading.MOST
-TOP = 65535
+SMALL_SHEETS = 4_000
+LARGE_SHEETS = 250
+LONG = 70_000
 SHOWN = 10
-WIDEST = 4000
+WIDEST = 4096
 PATIENCE = 60.0
 
-Yard = list[int]
 Random = random.Random
-
-
-def flat(pairs: Iterable[Sequence[int]]) -> list[int]:
-    """The numbers of pairs, one behind the other."""
-    return [number for pair in pairs for number in pair]
-
-
-def read(case: Case) -> Outcome:
-    """What the reading answers and writes."""
-    now, goal, pairs = case.now, case.goal, []
-    numbers: Sequence[int]
-    if case.operation == "check":
-        numbers = reading.check(now, goal)
-    elif case.operation == "plan":
-        *numbers, pairs = reading.plan(case.method, now, goal, case.space)
-    elif case.operation == "deadlock":
-        *numbers, pairs = reading.deadlock(now, goal, case.space)
-    else:
-        numbers = reading.replay(now, goal, case.lifts)
-    return Outcome(tuple(numbers), written(flat(pairs), case.space))
 
 
 def told(outcome: Outcome) -> str:
@@ -107,7 +106,7 @@ class Trial:
         got, plain = self.outcome(self.library, case), self.outcome(self.plain, case)
         expected = plain
         if max(len(case.now), len(case.goal)) <= SMALL:
-            expected = read(case)
+            expected = Outcome.of(read(case), case.space)
         good = isinstance(got, Outcome) and got == expected == plain
 
         def why() -> str:
@@ -124,24 +123,9 @@ class Trial:
             self.compare(case)
 
 
-def operations(now: Yard, goal: Yard, lifts: Sequence[int] = ()) -> Iterator[Case]:
-    """Every operation on two lists, the space just large enough."""
-    n = len(now)
-    yield Case("check", now, goal)
-    for method in (1, 2, 3):
-        yield Case("plan", now, goal, method, space=4 * n)
-    yield Case("deadlock", now, goal, space=2 * n)
-    yield Case("replay", now, goal, lifts=lifts)
-
-
 def lists(n: int) -> list[Yard]:
     """Every list of n entries up to n + 1, the accepted arrangements among them."""
-    return [list(entries) for entries in itertools.product(range(n + 2), repeat=n)]
-
-
-def is_arrangement(yard: Yard) -> bool:
-    """Whether the three questions to one arrangement all get a yes."""
-    return reading.arrangement_fault(yard) == (0, 0)
+    return list(itertools.product(range(n + 2), repeat=n))
 
 
 def every_small() -> Iterator[Case]:
@@ -155,72 +139,31 @@ def every_small() -> Iterator[Case]:
             yield from operations(now, goal)
     for n in range(4):
         pairs = list(itertools.product(range(n + 2), repeat=2))
-        yards = [entries for entries in lists(n) if is_arrangement(entries)]
-        for now, goal in itertools.product(yards, repeat=2):
-            for method, space in itertools.product((0, 1, 2, 3, 4), {0, 4 * n - 1, 4 * n + 1}):
-                yield Case("plan", now, goal, method, space=max(space, 0))
-            for space in {0, 2 * n - 1, 2 * n + 1}:
-                yield Case("deadlock", now, goal, space=max(space, 0))
+        for now, goal in itertools.product(sheets.arrangements(n), repeat=2):
+            for method, more in itertools.product((0, *METHODS, 4), (-plan_space(n), -1, 1)):
+                yield planning(method, now, goal, max(plan_space(n) + more, 0))
+            for more in (-deadlock_space(n), -1, 1):
+                yield testing(now, goal, max(deadlock_space(n) + more, 0))
             for one in pairs:
-                yield Case("replay", now, goal, lifts=one)
+                yield replaying(now, goal, one)
             for one, two in itertools.product(pairs, repeat=2):
-                yield Case("replay", now, goal, lifts=one + two)
+                yield replaying(now, goal, one + two)
 
 
-def piled(order: Sequence[int], cuts: Callable[[], bool]) -> Yard:
-    """Slabs piled in an order, a new pile begun at each cut."""
-    yard = [0] * len(order)
-    for below, slab in zip(order, order[1:]):
-        yard[slab - 1] = 0 if cuts() else below
-    return yard
-
-
-def random_yard(rng: Random, n: int) -> Yard:
+def random_yard(rng: Random, n: int) -> list[int]:
     """A random arrangement, of tall piles, low ones or few."""
     order = rng.sample(range(1, n + 1), n)
     chance = rng.choice((0.5, 0.2, n**-0.5, 1 / n)) if n else 0
-    return piled(order, lambda: rng.random() < chance)
+    return sheets.piled(order, lambda: rng.random() < chance)
 
 
-class Walk:
-    """An arrangement that random lifts are made in."""
-
-    def __init__(self, rng: Random, yard: Yard) -> None:
-        """The arrangement before the lifts."""
-        self.rng, self.yard = rng, list(yard)
-        under = set(yard)
-        self.clear = [slab for slab in reading.slabs(yard) if slab not in under]
-
-    def lift(self) -> list[int] | None:
-        """Makes a random lift and gives slab, destination and where it rested; None where there is none."""
-        slab = self.rng.choice(self.clear)
-        place = self.rng.choice([0, *self.rng.choices(self.clear, k=2)])
-        rested = self.yard[slab - 1]
-        if place in (slab, rested):
-            return None
-        self.yard[slab - 1] = place
-        if place:
-            self.clear.remove(place)
-        if rested:
-            self.clear.append(rested)
-        return [slab, place, rested]
-
-    def lifts(self, wished: int) -> list[list[int]]:
-        """Random lifts, as many as wished; none where the yard has none."""
-        made: list[list[int]] = []
-        while len(made) < wished and len(self.yard) > 1:
-            if lift := self.lift():
-                made.append(lift)
-        return made
-
-
-def random_sheet(rng: Random, n: int) -> tuple[Yard, Yard]:
+def near_or_far(rng: Random, n: int) -> Sheet:
     """A random sheet; in half of them the goal is a few lifts away."""
     now = random_yard(rng, n)
     if rng.random() < 0.5:
         return now, random_yard(rng, n)
     walk = Walk(rng, now)
-    walk.lifts(rng.randint(0, n))
+    walk.lifts(rng.randint(0, n), walk.clear_pair)
     return now, walk.yard
 
 
@@ -235,15 +178,16 @@ def altered_lists(rng: Random, now: Yard, right: list[int]) -> Iterator[list[int
     yield one
     at = 2 * rng.randrange(len(right) // 2)
     yard = list(now)
-    for slab, place in zip(right[:at:2], right[1:at:2]):
+    for slab, place in paired(right[:at]):
         yard[slab - 1] = place
-    for slab, place, rested in Walk(rng, yard).lifts(1):
+    walk = Walk(rng, yard)
+    for slab, place, rested in walk.lifts(1, walk.clear_pair):
         yield [*right[:at], slab, place, slab, rested, *right[at:]]
     yield right[:at] + right[at + 2 :]
     yield right[:-1]
 
 
-def damaged(rng: Random, yard: Yard) -> Yard:
+def damaged(rng: Random, yard: Yard) -> list[int]:
     """A copy of an arrangement with an entry or its length spoilt."""
     bad = list(yard)
     if bad and rng.random() < 0.8:
@@ -258,99 +202,65 @@ def damaged(rng: Random, yard: Yard) -> Yard:
 
 def plan_of(trial: Trial, now: Yard, goal: Yard, method: int) -> list[int]:
     """The list that the plain program writes."""
-    numbers, space = trial.plain.run(Case("plan", now, goal, method, space=4 * len(now)))
+    numbers, space = trial.plain.run(planning(method, now, goal))
     return list(space[: 2 * numbers[2]])
 
 
-def randoms(trial: Trial, rng: Random, sheets: int, sizes: tuple[int, int]) -> Iterator[Case]:
+def randoms(trial: Trial, rng: Random, number: int, sizes: tuple[int, int]) -> Iterator[Case]:
     """Random sheets of some sizes with every operation, right and altered lists, and spoilt copies."""
-    for _ in range(sheets):
+    for _ in range(number):
         n = rng.randint(*sizes)
-        now, goal = random_sheet(rng, n)
+        now, goal = near_or_far(rng, n)
         yield from operations(now, goal)
-        for lifts in altered_lists(rng, now, plan_of(trial, now, goal, rng.randint(1, 3))):
-            yield Case("replay", now, goal, lifts=lifts)
+        for lifts in altered_lists(rng, now, plan_of(trial, now, goal, rng.choice(METHODS))):
+            yield replaying(now, goal, lifts)
         if rng.random() < 0.5:
             yield from operations(damaged(rng, now), goal, [1, 0])
         else:
             yield from operations(now, damaged(rng, goal), [1, 0])
-        yield Case("plan", now, goal, rng.randint(1, 3), space=4 * n - 1)
-        yield Case("plan", now, goal, rng.randint(1, 3), space=4 * n + rng.randint(1, 9))
-        yield Case("deadlock", now, goal, space=2 * n - 1)
-        yield Case("deadlock", now, goal, space=2 * n + rng.randint(1, 9))
+        yield planning(rng.choice(METHODS), now, goal, plan_space(n) - 1)
+        yield planning(rng.choice(METHODS), now, goal, plan_space(n) + rng.randint(1, 9))
+        yield testing(now, goal, deadlock_space(n) - 1)
+        yield testing(now, goal, deadlock_space(n) + rng.randint(1, 9))
 
 
-def hold_promises(trial: Trial, rng: Random, sheets: int, n: int) -> None:
+def hold_promises(trial: Trial, rng: Random, number: int, n: int) -> None:
     """Holds the library's lists and its deadlock test to the breadth-first search and the definitions."""
-    for _ in range(sheets):
-        now, goal = random_sheet(rng, n)
-        fewest, locked = reading.shortest(now, goal), reading.deadlocked(now, goal)
-        out_of_place = len(reading.misplaced(now, goal))
-        test = Case("deadlock", now, goal, space=2 * n)
-        found = trial.compare(test)
-        says = isinstance(found, Outcome) and (found.numbers[2] > 0) == locked
-        trial.count(says and (not locked or fewest > out_of_place), test, lambda: "deadlock")
-        for method in (1, 2, 3):
-            case = Case("plan", now, goal, method, space=4 * n)
+    for _ in range(number):
+        now, goal = near_or_far(rng, n)
+        sheet = promises.searched(now, goal)
+        for case in by_all(now, goal):
             made = trial.compare(case)
             if isinstance(made, str):
                 continue
-            count = made.numbers[2]
-            arrives = reading.replay(now, goal, made.space[: 2 * count]) == (0, 0, 0)
-            short = count <= 2 * fewest and (locked or method == 1 or count == fewest)
-            trial.count(arrives and short, case, lambda: f"promise: {count} lifts, {fewest} would do")
+            unkept = promises.unkept(sheet, case, paired(made.space[: 2 * made.numbers[2]]))
+            trial.count(not unkept, case, lambda: "; ".join(unkept))
 
 
-def copies(now: Yard, goal: Yard, n: int) -> tuple[Yard, Yard]:
-    """A sheet repeated to about n slabs."""
-    firsts = range(0, n - len(now) + 1, len(now))
-    many = [[x and x + first for first in firsts for x in yard] for yard in (now, goal)]
-    return many[0], many[1]
-
-
-def families(n: int) -> Iterator[tuple[Yard, Yard]]:
-    """Sheets of about n slabs that are hard in one way each."""
-    tower, flipped = list(range(n)), [*range(2, n + 1), 0]
-    yield tower, flipped
-    yield [0] * n, tower
-    yield copies([2, 0, 4, 0], [4, 0, 2, 0], n)
-    yield copies([2, 3, 0, 5, 0], [5, 0, 0, 3, 2], n)
-    k = n // 2
-    feet = range(k + 1, 2 * k + 1)
-    yield [*feet, *[0] * k], [*feet[1:], feet[0], *[0] * k]
-    # k slabs that wait in a row before a pile whose top slab is in its own way.
-    k = n // 4
-    pile = list(range(2 * k + 1, n))
-    now = [*range(k + 1, 2 * k + 1), *[0] * k, 0, *pile]
-    yield now, [*range(k + 2, 2 * k + 2), *[0] * k, 0, 0, *pile[1:]]
-
-
-def large(trial: Trial, rng: Random, sheets: int) -> Iterator[Case]:
-    """Random sheets of 100 to 4,000 slabs, the largest sizes, and the hard families, also renumbered."""
-    yield from randoms(trial, rng, sheets, (100, MOST))
+def large(trial: Trial, rng: Random) -> Iterator[Case]:
+    """Random sheets of 100 slabs to a full yard, the largest sizes, and the hard families, also renumbered."""
+    yield from randoms(trial, rng, LARGE_SHEETS, (100, MOST))
     yield from randoms(trial, rng, 4, (MOST - 1, MOST))
-    for n in (100, 500, 2000, MOST):
-        for now, goal in families(n):
-            for method in (1, 2, 3):
-                yield Case("replay", now, goal, lifts=plan_of(trial, now, goal, method))
+    for n in (100, 500, MOST // 2, MOST):
+        for now, goal in sheets.families(n):
+            for method in METHODS:
+                yield replaying(now, goal, plan_of(trial, now, goal, method))
             yield from operations(now, goal)
-            name = [0, *rng.sample(range(1, len(now) + 1), len(now))]
-            by_name = sorted(reading.slabs(now), key=lambda slab: name[slab])
-            yield from operations(*([name[yard[s - 1]] for s in by_name] for yard in (now, goal)))
+            yield from operations(*sheets.renumbered(rng, now, goal))
 
 
 def hostile(rng: Random) -> Iterator[Case]:
-    """Wrong lengths, methods and spaces, and the first and last places of every refusal at 4,000 slabs."""
-    for method in {0, 4, 5, 255, 256, 257, 258, 259, 32768, 65534, TOP, *rng.sample(range(4, TOP), 50)}:
-        yield Case("plan", [2, 0], [0, 1], method, space=8)
-        yield Case("plan", [TOP], [0, 1], method, space=0)
-    for long in (MOST + 1, 4096, 32768, TOP, 65536, 70000):
+    """Wrong lengths, methods and spaces, and the first and last places of every refusal in a full yard."""
+    for method in {0, 4, 5, 255, 256, 257, 258, 259, 32768, TOP - 1, TOP, *rng.sample(range(4, TOP), 50)}:
+        yield planning(method, [2, 0], [0, 1])
+        yield planning(method, [TOP], [0, 1], 0)
+    for long in (MOST + 1, 4096, 32768, TOP, TOP + 1, LONG):
         yield from operations([0] * long, [0] * long)
         yield from operations([TOP] * long, [0])
         yield from operations([0], [TOP] * long)
         yield from operations([0] * MOST, [0] * long)
     n = MOST
-    sound = list(range(n))
+    sound = sheets.tower(n)
     for bad in (
         [n + 1] * n,
         [0] * (n - 1) + [n + 1],
@@ -366,12 +276,12 @@ def hostile(rng: Random) -> Iterator[Case]:
     ):
         for now, goal in ((bad, sound), (sound, bad), (bad, [TOP] * n), ([0] * n, bad)):
             yield from operations(now, goal, [1])
-    for space in (0, 1, 4 * n - 1, 4 * n, 4 * n + 1, 70000):
-        yield Case("plan", sound, [0] * n, 2, space=space)
-    for space in (0, 1, 2 * n - 1, 2 * n, 2 * n + 1, 70000):
-        yield Case("deadlock", sound, [0] * n, space=space)
+    for space in (0, 1, *(plan_space(n) + more for more in (-1, 0, 1)), LONG):
+        yield planning(2, sound, [0] * n, space)
+    for space in (0, 1, *(deadlock_space(n) + more for more in (-1, 0, 1)), LONG):
+        yield testing(sound, [0] * n, space)
     for lifts in ([1], [0, 0], [TOP, TOP], [1, TOP], [n, 0, 1], [n + 1, 0], [n, n + 1], [n, n]):
-        yield Case("replay", sound, [0] * n, lifts=lifts)
+        yield replaying(sound, [0] * n, lifts)
 
 
 def long_lists(rng: Random) -> Iterator[Case]:
@@ -379,20 +289,20 @@ def long_lists(rng: Random) -> Iterator[Case]:
     for n in (2, SMALL, 100, MOST):
         now = random_yard(rng, n)
         walk = Walk(rng, now)
-        made = walk.lifts(50_000)
-        there = flat([slab, place] for slab, place, _ in made)
-        back = flat([slab, rested] for slab, _, rested in reversed(made))
-        yield Case("replay", now, now, lifts=there + back)
-        yield Case("replay", now, walk.yard, lifts=there + back + there)
-        yield Case("replay", now, walk.yard, lifts=there + back)
+        made = walk.lifts(50_000, walk.clear_pair)
+        there = flat((slab, place) for slab, place, _ in made)
+        back = flat((slab, rested) for slab, _, rested in reversed(made))
+        yield replaying(now, now, there + back)
+        yield replaying(now, walk.yard, there + back + there)
+        yield replaying(now, walk.yard, there + back)
         for number in (0, n + 1, TOP):
             changed = there + back
             changed[-2 - 2 * rng.randrange(50)] = number
-            yield Case("replay", now, now, lifts=changed)
+            yield replaying(now, now, changed)
         again = there + back
         again[-2:] = again[-4:-2]
-        yield Case("replay", now, now, lifts=again)
-        yield Case("replay", now, now, lifts=(there + back)[:-1])
+        yield replaying(now, now, again)
+        yield replaying(now, now, (there + back)[:-1])
 
 
 def given(trial: Trial, lines: Iterable[str]) -> None:
@@ -409,7 +319,7 @@ def given(trial: Trial, lines: Iterable[str]) -> None:
         if case.operation == "replay":
             numbers = (numbers[0], 0, numbers[1]) if len(numbers) == 2 else (0, *numbers[2:])
         front_of = numbers_of((pairs.split() or ["-"])[0])
-        expected = Outcome(numbers, written(front_of, case.space))
+        expected = Outcome.of(Answer(numbers, paired(front_of)), case.space)
         trial.count(got == expected, case, lambda: f"stated {told(expected)}; library {told(got)}")
 
 
@@ -425,14 +335,14 @@ def tests(trial: Trial, seed: int) -> None:
     """Runs every part, each with its own random numbers from the seed."""
     parts: list[tuple[str, Callable[[Random], None]]] = [
         ("all up to 3 slabs", lambda rng: trial.run(every_small())),
-        ("random, 4 to 8 slabs", lambda rng: trial.run(randoms(trial, rng, 4000, (4, SMALL)))),
+        ("random, 4 to 8 slabs", lambda rng: trial.run(randoms(trial, rng, SMALL_SHEETS, (4, SMALL)))),
         ("promises, 4 slabs", lambda rng: hold_promises(trial, rng, 1000, 4)),
         ("promises, 5 slabs", lambda rng: hold_promises(trial, rng, 1000, 5)),
         ("promises, 6 slabs", lambda rng: hold_promises(trial, rng, 200, 6)),
         ("promises, 7 slabs", lambda rng: hold_promises(trial, rng, 5, 7)),
         ("hostile", lambda rng: trial.run(hostile(rng))),
         ("long lists", lambda rng: trial.run(long_lists(rng))),
-        ("100 to 4,000 slabs", lambda rng: trial.run(large(trial, rng, 250))),
+        (f"100 to {MOST:,} slabs", lambda rng: trial.run(large(trial, rng))),
     ]
     for name, part in parts:
         before, failed, start = trial.passed, len(trial.failures), time.monotonic()
@@ -486,7 +396,7 @@ def main() -> int:
     parser = argparse.ArgumentParser(description="Differential tests of the library.")
     parser.add_argument("--library", type=Path, default=TARGET / "staticlib" / "libtopjeska.a")
     parser.add_argument("--prefix", default="topjeska", help="what the library's names begin with")
-    parser.add_argument("--seed", type=int, default=4001)
+    parser.add_argument("--seed", type=int, default=sheets.SEED)
     parser.add_argument("--cases", help="a file of lines to run instead; - for standard input")
     words = parser.parse_args()
     path = words.library.resolve()

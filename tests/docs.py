@@ -1,37 +1,30 @@
-"""Holds the pages of docs/ and the tools of tools/ to what they speak of.
+"""Holds the pages of docs/ to what they speak of, and runs the tests of the tools.
 
 docs/WHY.md: each theorem or law stands in the lines that the page names, each sheet has the lists and counts that the
 page states (by reading.py), each picture is what tools/draw makes of its sheet. docs/DEMANDS.md: each file, definition,
-function and must-fail edit that it names exists. tools/sheet: records, words, and what it says of a deadlock.
+function and must-fail edit that it names exists. The tests of the tools are those of commands.py.
 With --write it corrects the line numbers of docs/WHY.md and draws the pictures again.
 """
 
-import importlib.machinery
-import importlib.util
 import itertools
-import os
-import random
 import re
-import subprocess
 import sys
-import tempfile
 from collections.abc import Iterator
 from pathlib import Path
-from types import ModuleType
 from typing import NamedTuple
 
-import cases
+import commands
 import reading
+import sheets
+from case import flat, planning, read, testing
+from commands import ROOT, Test, list_line, sheet_line, sheet_of
+from reading import METHODS, Pair, Yard
 
-ROOT = Path(__file__).resolve().parent.parent
 WHY = ROOT / "docs" / "WHY.md"
 DEMANDS = ROOT / "docs" / "DEMANDS.md"
 PICTURES = ROOT / "docs" / "pictures"
 THEOREMS = "crates/blocks/specs/Demands.antt"
 SEARCHED = 7
-
-# A test: what it holds, and what is wrong; empty when nothing is.
-Test = tuple[str, str]
 
 REFERENCE = re.compile(r"`([^`\s]+)`, `(crates/[^`:]+):(\d+)(?:-(\d+))?`")
 NAMES = r"[^\s(){}]+(?: [^\s(){}]+)*"
@@ -43,19 +36,6 @@ LIFT = re.compile(r"(\d+)→(\d+)")
 def text_of(path: Path) -> str:
     """The text of a file."""
     return path.read_text(encoding="utf-8")
-
-
-def tool(name: str) -> ModuleType:
-    """A program of tools/ as a module."""
-    loader = importlib.machinery.SourceFileLoader(f"tools_{name}", str(ROOT / "tools" / name))
-    spec = importlib.util.spec_from_loader(loader.name, loader)
-    assert spec is not None
-    module = importlib.util.module_from_spec(spec)
-    loader.exec_module(module)
-    return module
-
-
-draw, sheet = tool("draw"), tool("sheet")
 
 
 # ---- where things are declared
@@ -152,6 +132,7 @@ def corrected(text: str) -> str:
     """The page with the lines where its theorems and laws stand."""
 
     def again(match: re.Match[str]) -> str:
+        """A reference with its lines."""
         name, file = match[1], match[2]
         places = at_place(file, name) if (ROOT / file).is_file() else []
         return f"`{name}`, `{file}:{lines_of(places[0])}`" if len(places) == 1 else match[0]
@@ -173,6 +154,14 @@ class Row(NamedTuple):
     counts: str
     fewest: str
 
+    def typed(self) -> str:
+        """The sheet as it is typed."""
+        return self.line.strip("`")
+
+    def sheet(self) -> tuple[Yard, Yard]:
+        """The sheet."""
+        return sheet_of(self.typed())
+
 
 def table(text: str, heading: str) -> list[list[str]]:
     """The cells of the first table under a heading, its head left out."""
@@ -186,12 +175,7 @@ def rows() -> dict[str, Row]:
     return {row[0]: Row(*row) for row in table(text_of(WHY), "The sheets of this page")}
 
 
-def told(pairs: list[reading.Pair], between: str) -> str:
-    """Pairs as the page writes them."""
-    return ", ".join(f"{first}{between}{second}" for first, second in pairs)
-
-
-def fewest(now: reading.Yard, goal: reading.Yard) -> int:
+def fewest(now: Yard, goal: Yard) -> int:
     """The fewest lifts, by search; for more than a few slabs from both ends, because every lift can be taken back."""
     if len(now) <= SEARCHED:
         return reading.shortest(now, goal)
@@ -205,27 +189,22 @@ def fewest(now: reading.Yard, goal: reading.Yard) -> int:
 
 def misstated(row: Row) -> str:
     """Where a row differs from the reading."""
-    now, goal = draw.sheet_of(row.line.strip("`"))
-    n = len(now)
+    now, goal = row.sheet()
     right = Row(
         row.name,
         row.line,
         str(len(reading.misplaced(now, goal))),
-        told(reading.deadlock(now, goal, 2 * n)[3], " "),
-        told(reading.plan(2, now, goal, 4 * n)[4], "→"),
-        ", ".join(str(reading.plan(method, now, goal, 4 * n)[2]) for method in (1, 2, 3)),
+        ", ".join(f"{slab} {d}" for slab, d in read(testing(now, goal)).pairs),
+        list_line(read(planning(2, now, goal)).pairs),
+        ", ".join(str(read(planning(method, now, goal)).numbers[2]) for method in METHODS),
         str(fewest(now, goal)),
     )
     return "" if row == right else f"the page says {row[2:]}, the reading {right[2:]}"
 
 
-def sheets() -> Iterator[Test]:
+def page_sheets() -> Iterator[Test]:
     """The page's sheets against the reading and document 01; the lists of its beliefs arrive and are longer."""
-    ours = dict.fromkeys((tuple(now), tuple(goal)) for now, goal, *_ in cases.SHEETS)
-    stated = {
-        f"S{number}": f"`{' '.join(map(str, now))} / {' '.join(map(str, goal))}`"
-        for number, (now, goal) in enumerate(ours, 1)
-    }
+    stated = {f"S{number}": f"`{sheet_line(*sheet)}`" for number, sheet in enumerate(sheets.STATED, 1)}
     known = rows()
     for name, row in known.items():
         yield f"WHY.md, sheet {name}", misstated(row)
@@ -233,24 +212,23 @@ def sheets() -> Iterator[Test]:
             wrong = "" if stated.get(name) == row.line else f"document 01 has {stated.get(name)}"
             yield f"WHY.md, sheet {name} of document 01", wrong
     shown_lines = {line for line in TICKED.findall(text_of(WHY)) if re.fullmatch(r"[\d ]+/[\d ]+", line)}
-    other = shown_lines - {row.line.strip("`") for row in known.values()}
+    other = shown_lines - {row.typed() for row in known.values()}
     yield "WHY.md, sheets in the text", f"not in the table: {sorted(other)}" if other else ""
     beliefs = table(text_of(WHY), "Beliefs that cost a lift")
     yield "WHY.md, beliefs", "" if len(beliefs) == 4 else f"document 01 has 4, the page {len(beliefs)}"
     for belief, name, shown in beliefs:
         yield f"WHY.md, belief {belief}", "" if name in known else f"no sheet {name} in the table"
         for listed in TICKED.findall(shown):
-            lifts = [int(number) for pair in LIFT.findall(listed) for number in pair]
-            now, goal = draw.sheet_of(known[name].line.strip("`"))
-            arrives = reading.replay(now, goal, lifts) == (0, 0, 0)
-            longer = len(lifts) // 2 > int(known[name].fewest)
+            pairs: list[Pair] = [(int(slab), int(place)) for slab, place in LIFT.findall(listed)]
+            arrives = reading.replay(*known[name].sheet(), flat(pairs)) == (0, 0, 0)
+            longer = len(pairs) > int(known[name].fewest)
             yield f"WHY.md, list {listed}", "" if arrives and longer else "does not arrive, or costs no lift"
 
 
 def picture(name: str) -> str:
     """What tools/draw makes for a picture's name: the sheet of that name, with `-lifts` its list too."""
     row = {known.lower(): row for known, row in rows().items()}[name.removesuffix("-lifts")]
-    return draw.drawn(row.line.strip("`"), row.lifts if name.endswith("-lifts") else "")
+    return commands.drawn(row.typed(), row.lifts if name.endswith("-lifts") else "")
 
 
 def linked() -> set[str]:
@@ -288,8 +266,7 @@ class Names:
             self.read(crate)
         self.tests = {
             name
-            for path in [*(ROOT / "tests").glob("*.py"), *(ROOT / "tools").iterdir()]
-            if path.is_file()
+            for path in (ROOT / "tests").glob("*.py")
             for name in re.findall(r"^def (\w+)", text_of(path), re.M)
         }
 
@@ -312,9 +289,10 @@ class Names:
             for kind, body in re.findall(r"\bimpl (\w+)[^{]*\{(.*?)\n\}", text, re.S):
                 self.parts |= {(kind, name) for name in re.findall(r"\bfn (\w+)", body)}
         self.of[crate] |= {path.stem for path in home.glob("must-fail/*.edit")}
+        self.of[crate] |= {path.stem for path in (ROOT / "tests" / "edits" / crate).glob("*.edit")}
 
     def known(self, name: str) -> bool:
-        """Whether a file, definition, function or edit of that name exists; of several words the files, or the first."""
+        """Whether a file, definition, function or edit of that name exists; of several words the files or the first."""
         if re.fullmatch(r"[\d\s/→,]+", name):
             return True
         files = [word for word in name.split() if "/" in word or re.search(r"\.(md|py|antt|rt|txt|h|c|rs)$", word)]
@@ -367,121 +345,16 @@ def demands() -> Iterator[Test]:
             yield f"DEMANDS.md:{number}", f"does not exist: {', '.join(wrong)}" if wrong else ""
 
 
-# ---- tools/sheet
-
-# Document 01, "Records of the program": the whole example.
-ASKED = "48 44 00 02 00 02 4E 57 00 02 4E 57 00 00 47 4C 00 00 47 4C 00 01"
-TOLD = "50 4C 00 02 00 02 4C 46 00 01 00 00 4C 46 00 02 00 01"
-
-# Sheets that document 01 refuses: method, line, number and place, and what the words must have.
-REFUSED = [
-    (2, "2 1 5 / 0 0 0", "4 3", ["Is every now entry at most n?", "slab 3", "rests on 5 now"]),
-    (2, "0 1 1 / 0 0 0", "5 3", ["Does each slab carry at most one slab now?", "slab 3 rests on slab 1 now", "slab 2"]),
-    (2, "1 / 0", "6 1", ["Does every slab come down to the ground now?", "slab 1"]),
-    (2, "0 0 / 2 1", "9 1", ["Does every slab come down to the ground in the goal?", "1, 2, 1"]),
-    (4, "2 0 / 0 1", "1 0", ["is the method 1, 2 or 3?", "the method is 4"]),
-]
-
-# Lines that are no sheets, and what the message must say.
-UNREADABLE = [
-    ("2 x / 0 1", ["column 3", "now entry 2", "'x'"]),
-    ("2 0 / 0 -1", ["column 9", "goal entry 2", "'-1'"]),
-    ("2 0 / 0 65536", ["column 9", "goal entry 2", "'65536'"]),
-    ("2 0 0 1", ["column 8", "no '/'"]),
-    ("2 0 / 0 1 / 0", ["column 11", "second '/'"]),
-    ("2 0 / 0", ["column 8", "slab 2 has no goal entry"]),
-    ("2 0 / 0 1 0", ["column 11", "slab 3 has no now entry"]),
-]
-
-
-def run(command: list[str], program: Path | None = None) -> subprocess.CompletedProcess[str]:
-    """Runs a tool, with a program in the place of the built one."""
-    around = {**os.environ, **({"TOPJESKA_PLAN": str(program)} if program else {})}
-    line = [sys.executable, str(ROOT / "tools" / command[0]), *command[1:]]
-    return subprocess.run(line, capture_output=True, text=True, encoding="utf-8", env=around, check=False)
-
-
-def lacking(text: str, parts: list[str]) -> str:
-    """The parts that a text does not have."""
-    missing = [part for part in parts if part not in text]
-    return f"{missing} not in {text!r}" if missing else ""
-
-
-def misended(ended: subprocess.CompletedProcess[str], status: int, parts: list[str]) -> str:
-    """What is wrong with how a tool ended, and with what it printed."""
-    return f"ends with {ended.returncode}" if ended.returncode != status else lacking(ended.stdout + ended.stderr, parts)
-
-
-def stand_in(folder: Path, expected: str, answer: str) -> Path:
-    """A program that gives a fixed answer to one input, and nothing to any other."""
-    path = folder / "plan"
-    path.write_text(
-        f"#!{sys.executable}\nimport sys\n"
-        f"if sys.stdin.buffer.read() == bytes.fromhex({expected!r}):\n"
-        f"    sys.stdout.buffer.write(bytes.fromhex({answer!r}))\n"
-    )
-    path.chmod(0o755)
-    return path
-
-
-def words_on_deadlock() -> str:
-    """Where what tools/sheet says of a deadlock differs from the search for one, on small sheets by every method."""
-    rng = random.Random(cases.SEED)
-    some = itertools.chain(cases.small_problems(), (cases.random_problem(rng, 6, kind % 3) for kind in range(300)))
-    for (now, goal), method in itertools.product(some, (1, 2, 3)):
-        pairs = reading.plan(method, now, goal, 4 * len(now))[4]
-        said = sheet.about_deadlock(method, pairs).split()[0]
-        twice = len({slab for slab, _ in pairs}) < len(pairs)
-        right = "not" if method == 1 and twice else "met:" if reading.deadlocked(now, goal) else "none"
-        if said != right:
-            return f"method {method}, {now} / {goal}: says {said}"
-    return ""
-
-
-def sheet_tool() -> Iterator[Test]:
-    """Records and words of tools/sheet: document 01's example and refusals, bad lines, a program that is not there."""
-    command = ["sheet", "plan", "2", "2 0 / 0 1"]
-    ended = run(["sheet", "records", *command[2:]])
-    yield "tools/sheet, records of the whole example", misended(ended, 0, [f"{ASKED}\n"])
-    with tempfile.TemporaryDirectory() as folder:
-        here = Path(folder)
-        ended = run(command, stand_in(here, ASKED, TOLD))
-        parts = ["1→0, 2→1", "lifts:        2", "changed:      2", "none at the start"]
-        yield "tools/sheet, words of the whole example", misended(ended, 0, parts)
-        for method, line, refusal, parts in REFUSED:
-            number, place = map(int, refusal.split())
-            answer = f"4E 4F {number:04X} {place:04X}"
-            program = stand_in(here, sheet.asked(method, sheet.sheet_of(line)).hex(), answer)
-            ended = run(["sheet", "plan", str(method), line], program)
-            yield f"tools/sheet, refusal of {line} by {method}", misended(ended, 1, [f"{number}, place {place}", *parts])
-        ended = run(command, stand_in(here, ASKED, TOLD[:-3]))
-        yield "tools/sheet, an answer cut short", misended(ended, 2, ["not understood", "byte 13"])
-        yield "tools/sheet, no program", misended(run(command, here / "none"), 2, ["not at", "TOPJESKA_PLAN"])
-    for line, parts in UNREADABLE:
-        yield f"tools/sheet, line {line}", misended(run(["sheet", "plan", "2", line]), 2, parts)
-    yield "tools/sheet, words on deadlock", words_on_deadlock()
-    if (ROOT / "crates" / "plan").is_dir():
-        yield from built_program()
-
-
-def built_program() -> Iterator[Test]:
-    """The words of tools/sheet on what the built program answers to the sheets of the page, by every method."""
-    for row, method in itertools.product(rows().values(), (1, 2, 3)):
-        now, goal = sheet.sheet_of(row.line.strip("`"))
-        _, _, count, changed, pairs = reading.plan(method, now, goal, 4 * len(now))
-        right = sheet.words(method, sheet.sheet_of(row.line.strip("`")), sheet.Answer(0, 0, count, changed, pairs))
-        ended = run(["sheet", "plan", str(method), row.line.strip("`")])
-        yield f"tools/sheet with the built program, {row.name} by {method}", misended(ended, 0, [right])
-
-
 def main() -> int:
     """Runs all tests, or with --write corrects the page's line numbers and draws its pictures first."""
     if sys.argv[1:] == ["--write"]:
         WHY.write_text(corrected(text_of(WHY)), encoding="utf-8")
         PICTURES.mkdir(exist_ok=True)
-        for name in linked():
-            (PICTURES / f"{name}.svg").write_text(picture(name), encoding="utf-8")
-    done = list(itertools.chain(references(), sheets(), pictures(), demands(), sheet_tool()))
+        for made, name in ((picture(name), name) for name in linked()):
+            if made:
+                (PICTURES / f"{name}.svg").write_text(made, encoding="utf-8")
+    of_tools = commands.tests({name: row.typed() for name, row in rows().items()})
+    done = list(itertools.chain(references(), page_sheets(), pictures(), demands(), of_tools))
     for what, wrong in done:
         if wrong:
             print(f"{what}: {wrong}")

@@ -1,15 +1,15 @@
 """A library of the four operations, called through ctypes under the names of include/topjeska.h.
 
-A case is an operation with what it is lent; an outcome is the answer's numbers and the whole space
-afterwards. A case is written as a line: `plan m=2 now=2,0 goal=0,1 space=8`.
+An outcome is the answer's numbers and the whole space afterwards.
 """
 
 import ctypes
 import subprocess
 from array import array
-from collections.abc import Iterable, Sequence
 from pathlib import Path
 from typing import NamedTuple
+
+from case import SPACED, Answer, Case, flat
 
 FIELDS = {
     "check": ("refusal", "place"),
@@ -19,22 +19,17 @@ FIELDS = {
 }
 
 
-class Case(NamedTuple):
-    """A call: the operation, the two lists, and what only some operations take."""
-
-    operation: str
-    now: Sequence[int]
-    goal: Sequence[int]
-    method: int = 0
-    space: int = 0
-    lifts: Sequence[int] = ()
-
-
 class Outcome(NamedTuple):
     """The answer's numbers in the header's order, and what the lent space holds."""
 
     numbers: tuple[int, ...]
     space: array
+
+    @classmethod
+    def of(cls, answer: Answer, length: int) -> "Outcome":
+        """The outcome of an answer whose pairs go to the front of a space of a length."""
+        front = array("H", flat(answer.pairs))
+        return cls(answer.numbers, front + unwritten(length)[len(front) :])
 
 
 class Fault(Exception):
@@ -44,12 +39,6 @@ class Fault(Exception):
 def unwritten(length: int) -> array:
     """A space as it is lent: numbers that no operation writes, each unlike its neighbours."""
     return array("H", (0x8000 | i & 0x7FFF for i in range(length)))
-
-
-def written(pairs: Iterable[int], length: int) -> array:
-    """A space of a length with numbers written to its front."""
-    front = array("H", pairs)
-    return front + unwritten(length)[len(front) :]
 
 
 GUARD = unwritten(16)
@@ -89,7 +78,7 @@ class Library:
         words = [case.method] if operation == "plan" else []
         for numbers in lists if operation == "replay" else lists[:2]:
             words += [numbers.buffer_info()[0], len(numbers) - len(GUARD)]
-        if operation in ("plan", "deadlock"):
+        if operation in SPACED:
             words += [space.buffer_info()[0] + len(GUARD) * space.itemsize, case.space]
         answer = self.functions[operation](*words)
         if before != [bytes(numbers) for numbers in lists]:
@@ -98,40 +87,3 @@ class Library:
             raise Fault("it wrote beside the space")
         numbers = tuple(getattr(answer, field) for field in FIELDS[operation])
         return Outcome(numbers, space[len(GUARD) : end])
-
-
-def listed(numbers: Iterable[int]) -> str:
-    """Numbers as a line has them; `-` where there are none."""
-    return ",".join(map(str, numbers)) or "-"
-
-
-def line(case: Case) -> str:
-    """A case as a line."""
-    words = [case.operation]
-    if case.operation == "plan":
-        words.append(f"m={case.method}")
-    words += [f"now={listed(case.now)}", f"goal={listed(case.goal)}"]
-    if case.operation in ("plan", "deadlock"):
-        words.append(f"space={case.space}")
-    if case.operation == "replay":
-        words.append(f"lifts={listed(case.lifts)}")
-    return " ".join(words)
-
-
-def numbers_of(text: str) -> list[int]:
-    """The numbers of a comma-separated list."""
-    return [] if text in ("-", "") else [int(word) for word in text.split(",")]
-
-
-def case_of(text: str) -> Case:
-    """The case of a line."""
-    operation, *words = text.split()
-    named = dict(word.split("=", 1) for word in words)
-    return Case(
-        operation,
-        numbers_of(named["now"]),
-        numbers_of(named["goal"]),
-        int(named.get("m", 0)),
-        int(named.get("space", 0)),
-        numbers_of(named.get("lifts", "-")),
-    )

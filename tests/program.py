@@ -1,74 +1,53 @@
 """Runs the planning program, target/bin/plan, on whole files of records and compares what it writes.
 
-What it should write comes from document 01's records read literally here, and from the plans of
-reading.py; full yards take their plans from the closed forms of cases.py. Each run has 512 KiB of stack.
+What it should write comes from document 01's question 12 read literally here, and from the plans of
+reading.py; full yards take their plans from the closed forms of sheets.py. Each run has 512 KiB of stack.
 """
 
 import os
 import random
 import resource
 import signal
-import struct
 import subprocess
 import sys
-from collections.abc import Iterator, Sequence
+from collections.abc import Iterator
 from pathlib import Path
 
-import cases
 import reading
-from reading import Pair, Yard
+import sheets
+from case import planning, read
+from reading import METHODS, MOST, TOP
+from records import ENTRY, EXAMPLE, HEAD, KEPT, LIFT, LONGEST_ANSWER, LONGEST_INPUT
+from records import asked, head, packed, planned, refused, unpacked
 
 PROGRAM = Path(__file__).resolve().parent.parent / "target" / "bin" / "plan"
 VECTORS = Path(__file__).resolve().parent / "vectors" / "program.txt"
 SEED = 12
 SHEETS = 200
 STACK = 512 * 1024
-MOST = 4000
 TAIL = 3_000_000
-
-
-def record(mark: bytes, *fields: int) -> bytes:
-    """A record: its mark, and each field in two bytes, high byte first."""
-    return mark + struct.pack(f">{len(fields)}H", *fields)
-
-
-def sheet(method: int, now: Yard, goal: Yard) -> bytes:
-    """The input of a sheet: HD, the NW records, the GL records."""
-    entries = [record(b"NW", entry) for entry in now] + [record(b"GL", entry) for entry in goal]
-    return record(b"HD", len(now), method) + b"".join(entries)
-
-
-def written(differing: int, pairs: Sequence[Pair]) -> bytes:
-    """The output of a plan: PL and the LF records."""
-    return record(b"PL", len(pairs), differing) + b"".join(record(b"LF", *pair) for pair in pairs)
 
 
 def answer(data: bytes) -> bytes:
     """What document 01 has the program write: 12 of the head, 1, 2, 12 of the other records in order, then 4 on."""
-    if len(data) < 6 or data[:2] != b"HD":
-        return record(b"NO", 12, 0)
-    n, method = struct.unpack(">HH", data[2:6])
-    if method not in cases.METHODS:
-        return record(b"NO", 1, 0)
+    found, rest = unpacked(data)
+    marks = [mark for mark, _ in found]
+    if marks[:1] != ["HD"]:
+        return refused(12, 0)
+    n, method = found[0].fields
+    if method not in METHODS:
+        return refused(1, 0)
     if n > MOST:
-        return record(b"NO", 2, 0)
-    marks, entries = [b"NW"] * n + [b"GL"] * n, []
-    for before, mark in enumerate(marks, 1):
-        found = data[2 + 4 * before : 6 + 4 * before]
-        if len(found) < 4 or found[:2] != mark:
-            return record(b"NO", 12, before)
-        entries.append(int.from_bytes(found[2:], "big"))
-    if len(data) > 6 + 8 * n:
-        return record(b"NO", 12, 2 * n + 1)
-    number, place, _, differing, pairs = reading.plan(method, entries[:n], entries[n:], 4 * n)
-    return record(b"NO", number, place) if number else written(differing, pairs)
-
-
-# Document 01's whole example, in and out.
-EXAMPLE = (
-    bytes.fromhex("48 44 00 02 00 02 4E 57 00 02 4E 57 00 00 47 4C 00 00 47 4C 00 01"),
-    bytes.fromhex("50 4C 00 02 00 02 4C 46 00 01 00 00 4C 46 00 02 00 01"),
-)
+        return refused(2, 0)
+    wished = ["HD", *["NW"] * n, *["GL"] * n]
+    for before, mark in enumerate(wished):
+        if marks[before : before + 1] != [mark]:
+            return refused(12, before)
+    if len(marks) > len(wished) or rest:
+        return refused(12, len(wished))
+    entries = [record.fields[0] for record in found[1:]]
+    (number, place, _, changed), pairs = read(planning(method, entries[:n], entries[n:]))
+    return refused(number, place) if number else planned(changed, pairs)
 
 
 def vectors() -> Iterator[tuple[bytes, bytes]]:
@@ -80,17 +59,15 @@ def vectors() -> Iterator[tuple[bytes, bytes]]:
 
 def documents() -> Iterator[bytes]:
     """The sheets of document 01, starred and others, and the trials, by every method and by numbers that are none."""
-    stated = [(now, goal) for now, goal, *_ in (*cases.SHEETS, *cases.COUNTS)]
-    refused = [([2, 1, 5], [0, 0, 0]), ([0, 1, 1], [0, 0, 0]), ([1], [0])]
-    for now, goal in (*stated, *cases.TRIALS, *refused):
-        yield from (sheet(method, now, goal) for method in (0, *cases.METHODS, 4, cases.TOP))
+    for now, goal, *_ in (*sheets.ENDS, *sheets.COUNTS, *sheets.TRIALS, *sheets.REFUSED):
+        yield from (asked(method, now, goal) for method in (0, *METHODS, 4, TOP))
 
 
 def marred() -> Iterator[bytes]:
     """A valid input cut at every byte, with each byte of each mark turned, and with one byte after its end."""
-    whole = sheet(3, [2, 3, 0, 5, 0], [5, 0, 0, 3, 2])
+    whole = asked(3, [2, 3, 0, 5, 0], [5, 0, 0, 3, 2])
     yield from (whole[:size] for size in range(len(whole) + 1))
-    for start in (0, *range(6, len(whole), 4)):
+    for start in (0, *range(HEAD, len(whole), ENTRY)):
         for at in (start, start + 1):
             yield whole[:at] + bytes([whole[at] ^ 1]) + whole[at + 1 :]
     yield from (whole + bytes([last]) for last in (0, 0x4E, 0xFF))
@@ -98,13 +75,13 @@ def marred() -> Iterator[bytes]:
 
 def heads() -> Iterator[bytes]:
     """Inputs of a head alone: cut short, of another mark, with and without a tail, of each method and of large n."""
-    whole = record(b"HD", 0, 1)
+    whole = head(0, 1)
     yield from (whole[:size] for size in range(len(whole) + 1))
-    yield from (record(mark, 0, 1) for mark in (b"XD", b"HX", b"NW", b"DH"))
-    for n in (0, 1, MOST, MOST + 1, cases.TOP):
-        for method in (0, 1, 2, 3, 4, 256, 513, cases.TOP):
-            yield record(b"HD", n, method)
-            yield record(b"HD", n, method) + b"N"
+    yield from (mark + whole[len(mark) :] for mark in (b"XD", b"HX", b"NW", b"DH"))
+    for n in (0, 1, MOST, MOST + 1, TOP):
+        for method in (0, *METHODS, 4, 256, 513, TOP):
+            yield head(n, method)
+            yield head(n, method) + b"N"
 
 
 def damaged(rng: random.Random, data: bytes) -> Iterator[bytes]:
@@ -116,40 +93,49 @@ def damaged(rng: random.Random, data: bytes) -> Iterator[bytes]:
     yield data + rng.randbytes(rng.randint(1, 5))
 
 
-def sheets() -> Iterator[bytes]:
+def random_inputs() -> Iterator[bytes]:
     """Random sheets of at most eight slabs, each whole, damaged, and with entries that may be bad."""
     rng = random.Random(SEED)
     for number in range(SHEETS):
-        n, method = number % 9, rng.choice(cases.METHODS)
-        now, goal = cases.random_problem(rng, n, number % 3) if n > 1 else ([0] * n, [0] * n)
+        n, method = number % 9, rng.choice(METHODS)
+        now, goal = sheets.random_sheet(rng, n, number % 3) if n > 1 else ([0] * n, [0] * n)
         loose = [rng.randint(0, n + 1) for _ in range(n)]
-        yield sheet(method, now, goal)
-        yield from damaged(rng, sheet(method, now, goal))
-        yield sheet(method, loose, goal)
-        yield sheet(method, now, loose)
+        yield asked(method, now, goal)
+        yield from damaged(rng, asked(method, now, goal))
+        yield asked(method, loose, goal)
+        yield asked(method, now, loose)
 
 
 def full() -> Iterator[bytes]:
-    """Full yards that are refused: cut off, with a bad mark in the last NW or GL record, and with tails short and long."""
+    """Full yards that are refused: cut off, with a bad mark in the last NW or GL record, with tails short and long."""
     flat = [0] * MOST
-    whole = sheet(1, flat, flat)
-    yield from (whole[:-size] for size in (1, 3, 4, 5, 4 * MOST, 4 * MOST + 1))
-    for at in (2 + 4 * MOST, 2 + 8 * MOST):
+    whole = asked(1, flat, flat)
+    yield from (whole[:-size] for size in (1, ENTRY - 1, ENTRY, ENTRY + 1, ENTRY * MOST, ENTRY * MOST + 1))
+    for records in (MOST, 2 * MOST):
+        at = HEAD + ENTRY * (records - 1)
         marred = whole[:at] + b"X" + whole[at + 1 :]
         yield from (marred, marred + bytes(TAIL))
-    yield from (whole + bytes(size) for size in (1, 2, TAIL))
-    yield sheet(0, flat, flat) + bytes(TAIL)
-    yield sheet(2, [cases.TOP, *flat[1:]], flat)
+    yield from (whole + bytes(size - len(whole)) for size in (KEPT, KEPT + 1, len(whole) + TAIL))
+    yield asked(0, flat, flat) + bytes(TAIL)
+    yield asked(2, [TOP, *flat[1:]], flat)
 
 
 def plans() -> Iterator[tuple[bytes, bytes]]:
     """Full yards with their plans in closed form: the longest input, and the plans of 3,000 and more lifts."""
-    for make, _, sizes in cases.KNOWN:
-        for n in sizes:
-            known = make(n)
-            for method in cases.METHODS:
-                pairs = known.first if method == 1 else known.others
-                yield sheet(method, known.now, known.goal), written(reading.changed(known.now, known.goal), pairs)
+    for known in sheets.full_yards():
+        for method in METHODS:
+            changed = reading.changed(known.now, known.goal)
+            yield asked(method, known.now, known.goal), planned(changed, known.pairs(method))
+
+
+def sizes() -> Iterator[tuple[bool, str]]:
+    """The lengths of records, of the longest input, and of the longest plan, in which all but one are lifted twice."""
+    known = sheets.turned(MOST)
+    longest = planned(reading.changed(known.now, known.goal), known.pairs(1))
+    for words, size in (("HD 0 0", HEAD), ("NW 0", ENTRY), ("GL 0", ENTRY), ("PL 0 0", HEAD), ("LF 0 0", LIFT)):
+        yield len(packed(words)) == size, f"the length of {words}"
+    yield len(asked(1, known.now, known.goal)) == LONGEST_INPUT, "the length of the longest input"
+    yield len(longest) + 2 * LIFT == LONGEST_ANSWER, "the length of the longest answer"
 
 
 def run(data: bytes) -> bytes:
@@ -183,21 +169,23 @@ def unheard(data: bytes) -> bool:
 def main() -> int:
     """Runs all inputs and counts those that are answered as they should be."""
     print(f"seed {SEED}")
-    inputs = [*documents(), *marred(), *heads(), *sheets(), *full()]
+    inputs = [*documents(), *marred(), *heads(), *random_inputs(), *full()]
     pairs = [EXAMPLE, *vectors(), *((data, answer(data)) for data in inputs), *plans()]
+    others = [
+        (slowly(EXAMPLE[0]) == EXAMPLE[1], "the example a byte at a time"),
+        (unheard(pairs[-1][0]), "a full yard's plan into a closed pipe"),
+        *sizes(),
+    ]
     failed = 0
     for number, (data, told) in enumerate(pairs):
         if run(data) != told:
             print(f"input {number + 1}, {len(data)} bytes, is answered otherwise: {data[:40].hex()}")
             failed += 1
-    for told, name in (
-        (slowly(EXAMPLE[0]) == EXAMPLE[1], "the example a byte at a time"),
-        (unheard(pairs[-1][0]), "a full yard's plan into a closed pipe"),
-    ):
-        if not told:
+    for good, name in others:
+        if not good:
             print(f"{name} fails")
             failed += 1
-    print(f"{len(pairs) + 2 - failed} passed, {failed} failed")
+    print(f"{len(pairs) + len(others) - failed} passed, {failed} failed")
     return 1 if failed else 0
 
 

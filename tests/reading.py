@@ -12,7 +12,10 @@ from collections.abc import Sequence
 Yard = Sequence[int]
 Pair = tuple[int, int]
 
+# The most slabs of a sheet, the highest 16-bit number, and the numbers of the methods.
 MOST = 4000
+TOP = 65535
+METHODS = (1, 2, 3)
 
 
 def slabs(yard: Yard) -> range:
@@ -167,6 +170,16 @@ def method_gn(method: int, now: Yard, goal: Yard) -> list[Pair] | None:
     return pairs
 
 
+def plan_space(n: int) -> int:
+    """How many numbers of lent space planning needs."""
+    return 4 * n
+
+
+def deadlock_space(n: int) -> int:
+    """How many numbers of lent space the deadlock test needs."""
+    return 2 * n
+
+
 def changed(now: Yard, goal: Yard) -> int:
     """The count of slabs whose now and goal entries differ."""
     return sum(now[s - 1] != goal[s - 1] for s in slabs(now))
@@ -176,12 +189,12 @@ def plan(
     method: int, now: Yard, goal: Yard, space_len: int
 ) -> tuple[int, int, int, int, list[Pair]]:
     """Planning: number, place, lift count, changed and the pairs written."""
-    if method not in (1, 2, 3):
+    if method not in METHODS:
         return 1, 0, 0, 0, []
     number, place = check(now, goal)
     if number != 0:
         return number, place, 0, 0, []
-    if space_len < 4 * len(now):
+    if space_len < plan_space(len(now)):
         return 10, 0, 0, 0, []
     pairs = method_us(now, goal) if method == 1 else method_gn(method, now, goal)
     if pairs is None:
@@ -194,7 +207,7 @@ def deadlock(now: Yard, goal: Yard, space_len: int) -> tuple[int, int, int, list
     number, place = check(now, goal)
     if number != 0:
         return number, place, 0, []
-    if space_len < 2 * len(now):
+    if space_len < deadlock_space(len(now)):
         return 10, 0, 0, []
     yard: Yard = list(now)
     while slab := constructive(yard, goal):
@@ -282,7 +295,9 @@ def deadlocked(now: Yard, goal: Yard) -> bool:
 
 def shows_deadlock(now: Yard, goal: Yard, pairs: Sequence[Pair]) -> bool:
     """Whether the slabs of some pairs are deadlocked, each with the next one's d beside it."""
-    return bool(pairs) and all(
+    if not pairs or any(slab not in slabs(now) for slab, _ in pairs):
+        return False
+    return all(
         not in_position(now, goal, slab) and d in beneath(goal, slab) and d in beneath(now, after)
         for (slab, d), (after, _) in zip(pairs, [*pairs[1:], pairs[0]])
     )

@@ -1,9 +1,12 @@
-"""Sheets and lists of lifts typed as lines, `2 0 / 0 1` and `1→0, 2→1`, and what is wrong with a line, by its column."""
+"""Sheets and lists of lifts typed as lines, `2 0 / 0 1` and `1→0, 2→1`; what is wrong with a line, by its column."""
 
 import re
 from typing import NamedTuple
 
+# The most slabs of a sheet, and the highest number of a field.
+MOST = 4000
 TOP = 65535
+
 WIDE = 40
 WORD = re.compile(r"[^\s,]+")
 LIFT = re.compile(r"([0-9]+)(?:→|->)([0-9]+)")
@@ -18,6 +21,10 @@ class Sheet(NamedTuple):
 
     now: list[int]
     goal: list[int]
+
+    def line(self) -> str:
+        """The sheet as it is typed."""
+        return f"{' '.join(map(str, self.now))} / {' '.join(map(str, self.goal))}"
 
 
 def at(line: str, column: int, what: str) -> Fault:
@@ -83,3 +90,8 @@ def lifts_of(line: str) -> list[tuple[int, int]]:
 def shown(slab: int, destination: int) -> str:
     """A lift as it is written in a list."""
     return f"{slab}→{destination}"
+
+
+def all_shown(lifts: list[tuple[int, int]]) -> str:
+    """A list of lifts as a line."""
+    return ", ".join(shown(*lift) for lift in lifts)

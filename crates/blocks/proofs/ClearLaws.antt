@@ -8,8 +8,8 @@ use lib.ListN.{length}
 use Rattle.blocks.specs.State.{State, Block, support, Clear}
 use Rattle.blocks.specs.Position.{Proper}
 use Rattle.blocks.specs.Tests.{load, clearᵇ}
-use Rattle.blocks.proofs.Reflect.{Reflects, from-true, from-false, not-not, reflects-or, reflects-iff, eqb-reflects, same?}
-use Rattle.blocks.proofs.SearchLaws.{lowest-le, lowest-passes, lowest-none}
+use Rattle.lists.proofs.ReflectLaws.{Reflects, from-true, from-false, not-not, reflects-or, reflects-iff, eqb-reflects, same?}
+use Rattle.lists.proofs.SearchLaws.{lowest-le, lowest-passes, lowest-none}
 use Rattle.blocks.proofs.StateLaws.{supported-block}
 
 -- what is found to rest on b does rest there
@@ -37,9 +37,9 @@ load-is s p b c h r = p .carries (load s b) c (is ∙ sym r) (λ z. h (sym is �
     is = load-rests s b (λ e. h (load-none s b c e r))
 
 -- the test for clear is true exactly of clear blocks, on any list whatever
-pub clear-reflects : (s : State) (b : ℕ) → Reflects (Clear s b) (clearᵇ s b)
+pub clear-test : (s : State) (b : ℕ) → Reflects (Clear s b) (clearᵇ s b)
 unfolding clearᵇ
-clear-reflects s b = reflects-iff to from (reflects-or (eqb-reflects b 0) (eqb-reflects (load s b) 0))
+clear-test s b = reflects-iff to from (reflects-or (eqb-reflects b 0) (eqb-reflects (load s b) 0))
   where
     to : (b ≡ 0) ⊎ (load s b ≡ 0) → Clear s b
     to (inl e) = record { free = λ c r. e }

@@ -9,7 +9,7 @@ use Rattle.blocks.specs.State.{State, put, down, Above}
 use Rattle.blocks.specs.Position.{Problem, InPosition}
 use Rattle.blocks.specs.Move.{Legal, Constructive}
 use Rattle.blocks.specs.Deadlock.{wrap, next, Deadlock}
-use Rattle.blocks.proofs.Reflect.{Reflects, holds, fails, ltb-reflects, same?}
+use Rattle.lists.proofs.ReflectLaws.{Reflects, holds, fails, ltb-reflects, same?}
 use Rattle.blocks.proofs.FrameLaws.{moved-block, moved-clear, support-moved, down-frame, position-frame, position-unframe, above-frame, above-unframe, proper-moved}
 use Rattle.blocks.proofs.TowerLaws.{Reaches, tower-chain, clear-beneath, clear-unique}
 use Rattle.blocks.proofs.PositionLaws.{position-down, position-beneath, position-moved}

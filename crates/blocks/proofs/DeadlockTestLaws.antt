@@ -13,35 +13,35 @@ use Rattle.blocks.specs.Move.{Plan, Constructive, after}
 use Rattle.blocks.specs.Tests.{misplacedCount}
 use Rattle.blocks.specs.Deadlock.{Deadlock}
 use Rattle.blocks.specs.Loop.{loop, blocker, onward, blockedPairs}
-use Rattle.blocks.specs.Method.{endOf, settled, deadlockLoop, deadlockPairs}
+use Rattle.blocks.specs.Method.{endOf, built, deadlockLoop, deadlockPairs}
 use Rattle.blocks.specs.Demands.{NoDeadlock, Shown}
 use Rattle.blocks.specs.Stall.{IsLoop, NoneReady}
-use Rattle.blocks.proofs.Reflect.{Reflects, holds, fails, eqb-reflects}
+use Rattle.lists.proofs.ReflectLaws.{Reflects, holds, fails, eqb-reflects}
 use Rattle.blocks.proofs.DeadlockLaws.{deadlock-stands, deadlock-old}
 use Rattle.blocks.proofs.MisplacedLaws.{none-misplaced}
 use Rattle.blocks.proofs.LoopLaws.{loop-closed, loop-short, onward-closed, onward-length, onward-lowest, loop-deadlock}
 use Rattle.blocks.proofs.RunLaws.{Run, run-end, run-with, run-back}
 use Rattle.blocks.proofs.MethodLaws.{building-runs, enough, some-misplaced}
 
--- the run of constructive moves to the settled state
+-- the run of constructive moves to the built state
 abbrev Builds : State → State → Plan → Type 0
 Builds g s p = Run (λ t. Problem t g) (λ t. Constructive t g) (λ t. NoneReady t g) s p
 
-settled-run : {s g : State} → Problem s g → (p : Plan) × (settled s g ≡ after s p) × Builds g s p
-unfolding settled
-settled-run {s} {g} p = let r = building-runs _ s g p (enough p) in (r .0, ap (endOf s) (r .1), r .2)
+built-run : {s g : State} → Problem s g → (p : Plan) × (built s g ≡ after s p) × Builds g s p
+unfolding built
+built-run {s} {g} p = let r = building-runs _ s g p (enough p) in (r .0, ap (endOf s) (r .1), r .2)
 
--- the settled state is stalled or the goal, and has just the deadlocks of the start
-pub record Settled (s g t : State) : Type 0 where
+-- the built state is stalled or the goal, and has just the deadlocks of the start
+pub record Built (s g t : State) : Type 0 where
   pub problem : Problem t g
   pub stalled : NoneReady t g
   pub keeps : {k : ℕ} {b d : ℕ → ℕ} → Deadlock s g k b d → Deadlock t g k b d
   pub had : {k : ℕ} {b d : ℕ → ℕ} → Deadlock t g k b d → Deadlock s g k b d
 
-pub settled-is : {s g : State} → Problem s g → Settled s g (settled s g)
-settled-is {s} {g} p = let r = settled-run p in subst (Settled s g) (sym (r .1)) (at (r .0) (r .2))
+pub built-is : {s g : State} → Problem s g → Built s g (built s g)
+built-is {s} {g} p = let r = built-run p in subst (Built s g) (sym (r .1)) (at (r .0) (r .2))
   where
-    at : (q : Plan) → Builds g s q → Settled s g (after s q)
+    at : (q : Plan) → Builds g s q → Built s g (after s q)
     at q r =
         record {
           problem = run-end r .0;
@@ -71,72 +71,72 @@ pairs-length s g (b ∷ l) = let r = pairs-length s g l in omega arith
 -- ---- the test
 
 module _ {s g : State} (p : Problem s g) where
-  w : Settled s g (settled s g)
-  w = settled-is p
+  w : Built s g (built s g)
+  w = built-is p
 
-  -- what the test gives: nothing where nothing is misplaced in the settled state, else its loop from the lowest number onward
+  -- what the test gives: nothing where nothing is misplaced in the built state, else its loop from the lowest number onward
   pub data Test : List ℕ → Type 0 where
-    clean : misplacedCount (settled s g) g ≡ 0 → Test []
-    looped : misplacedCount (settled s g) g ≢ 0 → Test (onward (settled s g) (loop (settled s g) g))
+    clean : misplacedCount (built s g) g ≡ 0 → Test []
+    looped : misplacedCount (built s g) g ≢ 0 → Test (onward (built s g) (loop (built s g) g))
 
   tested : Test (deadlockLoop s g)
   unfolding deadlockLoop
-  tested = by (eqb-reflects (misplacedCount (settled s g) g) 0)
+  tested = by (eqb-reflects (misplacedCount (built s g) g) 0)
     where
-      by : {c : Bool} → Reflects (misplacedCount (settled s g) g ≡ 0) c → Test (cond c [] (onward (settled s g) (loop (settled s g) g)))
+      by : {c : Bool} → Reflects (misplacedCount (built s g) g ≡ 0) c → Test (cond c [] (onward (built s g) (loop (built s g) g)))
       by (holds e) = clean e
       by (fails n) = looped n
 
-  closed : misplacedCount (settled s g) g ≢ 0 → IsLoop (settled s g) g (loop (settled s g) g)
+  closed : misplacedCount (built s g) g ≢ 0 → IsLoop (built s g) g (loop (built s g) g)
   closed n = loop-closed (w .problem) (w .stalled) (some-misplaced (w .problem) n .1)
 
   -- nothing misplaced, nothing deadlocked
-  none : misplacedCount (settled s g) g ≡ 0 → NoDeadlock s g
+  none : misplacedCount (built s g) g ≡ 0 → NoDeadlock s g
   none e l k = let h = w .keeps (k .holds) in h .misplaced 0 (h .some) (none-misplaced (w .problem) e (getD l 0 0))
 
-  found : (n : misplacedCount (settled s g) g ≢ 0) → Shown s g (onward (settled s g) (loop (settled s g) g)) (blockedPairs (settled s g) g (onward (settled s g) (loop (settled s g) g)))
+  found : (n : misplacedCount (built s g) g ≢ 0) → Shown s g (onward (built s g) (loop (built s g) g)) (blockedPairs (built s g) g (onward (built s g) (loop (built s g) g)))
   found n =
-      let l = onward (settled s g) (loop (settled s g) g) in
+      let l = onward (built s g) (loop (built s g) g) in
       let k = loop-deadlock (w .problem) (w .stalled) (onward-closed (w .problem) (closed n)) in
       record {
         d = k .0;
         deadlock = w .had (k .1);
-        slab = λ i h. pairs-at (settled s g) g l i h .0;
-        beside = λ i h. pairs-at (settled s g) g l i h .1 ∙ sym (k .2 i h);
-        lowest = λ i h. onward-lowest (w .problem) (closed n) i (rw (onward-length (settled s g) (loop (settled s g) g)) at h);
+        slab = λ i h. pairs-at (built s g) g l i h .0;
+        beside = λ i h. pairs-at (built s g) g l i h .1 ∙ sym (k .2 i h);
+        lowest = λ i h. onward-lowest (w .problem) (closed n) i (rw (onward-length (built s g) (loop (built s g) g)) at h);
       }
 
-  pub test-none : (length (deadlockLoop s g) ≡ 0) ↔ NoDeadlock s g
-  test-none = by tested
+  pub deadlock-none : (length (deadlockLoop s g) ≡ 0) ↔ NoDeadlock s g
+  deadlock-none = by tested
     where
       by : {l : List ℕ} → Test l → (length l ≡ 0) ↔ NoDeadlock s g
       by (clean e) = (λ _. none e, λ _. refl)
       by (looped n) =
           let k = found n in
-          (λ z. absurd (omega (arith, z, k .deadlock .some)), λ free. absurd (free (onward (settled s g) (loop (settled s g) g)) (record { d = k .d; holds = k .deadlock })))
+          (λ z. absurd (omega (arith, z, k .deadlock .some)), λ free. absurd (free (onward (built s g) (loop (built s g) g)) (record { d = k .d; holds = k .deadlock })))
 
-  pub test-shown : length (deadlockLoop s g) ≢ 0 → Shown s g (deadlockLoop s g) (deadlockPairs s g)
+  pub deadlock-shown : length (deadlockLoop s g) ≢ 0 → Shown s g (deadlockLoop s g) (deadlockPairs s g)
   unfolding deadlockPairs
-  test-shown = by tested
+  deadlock-shown = by tested
     where
-      by : {l : List ℕ} → Test l → length l ≢ 0 → Shown s g l (blockedPairs (settled s g) g l)
+      by : {l : List ℕ} → Test l → length l ≢ 0 → Shown s g l (blockedPairs (built s g) g l)
       by (clean e) h = absurd (h refl)
       by (looped n) h = found n
 
-  pub test-short : length (deadlockLoop s g) ≤ length s
-  test-short = by tested
+  pub deadlock-short : length (deadlockLoop s g) ≤ length s
+  deadlock-short = by tested
     where
       by : {l : List ℕ} → Test l → length l ≤ length s
       by (clean e) = omega arith
       by (looped n) =
           omega (
             arith,
-            onward-length (settled s g) (loop (settled s g) g),
+            onward-length (built s g) (loop (built s g) g),
             loop-short (w .problem) (w .stalled) (some-misplaced (w .problem) n .1),
             p .same,
             w .problem .same,
           )
 
-pub test-fits : (s g : State) → Problem s g → length (deadlockPairs s g) ≤ 2 * length s
+pub deadlock-fits : (s g : State) → Problem s g → length (deadlockPairs s g) ≤ 2 * length s
 unfolding deadlockPairs
-test-fits s g p = omega (arith, pairs-length (settled s g) g (deadlockLoop s g), test-short p)
+deadlock-fits s g p = omega (arith, pairs-length (built s g) g (deadlockLoop s g), deadlock-short p)

@@ -8,7 +8,7 @@ use lib.ListN.{length}
 use Rattle.blocks.specs.State.{State, support, put, down, Above, Clear, Grounded}
 use Rattle.blocks.specs.Position.{Proper, Problem, InPosition}
 use Rattle.blocks.specs.Move.{Legal}
-use Rattle.blocks.proofs.Reflect.{same?}
+use Rattle.lists.proofs.ReflectLaws.{same?}
 use Rattle.blocks.proofs.StateLaws.{length-put, support-put-same, support-put-other}
 
 -- the way down from another block does not meet a clear block

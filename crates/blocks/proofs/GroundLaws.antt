@@ -1,16 +1,16 @@
 -- A block that comes down to the table does so in at most as many steps as there are blocks, so the test `groundedᵇ` agrees with `Grounded`. Assumes nothing.
 use mathlib.Core.Path.{_≡_, refl, sym, ap, _∙_}
 use mathlib.Core.Logic.{_⊎_, inl, inr, _≢_}
-use mathlib.Core.Bool.{Bool, true, false, not, _||_}
+use mathlib.Core.Bool.{Bool, true, false, not, _||_, or-true, or-false}
 use Prim.Native.Nat.{ℕ, zero, suc, _≤_}
 use native.Mathlib.Omega.{arith}
 use lib.Dec.{eqb}
 use lib.ListN.{length}
 use Rattle.blocks.specs.State.{State, support, down, Grounded}
-use Rattle.blocks.specs.Search.{count}
+use Rattle.lists.specs.Search.{count}
 use Rattle.blocks.specs.Tests.{groundedᵇ}
-use Rattle.blocks.proofs.Reflect.{Reflects, to-true, to-false, reflects-iff, eqb-reflects, same?}
-use Rattle.blocks.proofs.SearchLaws.{count-all, count-one-more}
+use Rattle.lists.proofs.ReflectLaws.{Reflects, to-true, to-false, reflects-iff, eqb-reflects, same?}
+use Rattle.lists.proofs.SearchLaws.{count-all, count-one-more}
 use Rattle.blocks.proofs.StateLaws.{down-table, down-suc}
 
 -- a block does not come back to itself on its way to the table
@@ -26,19 +26,11 @@ also t x y = t y || eqb y x
 
 also-same : (t : ℕ → Bool) (x : ℕ) → also t x x ≡ true
 unfolding also
-also-same t x = go (t x)
-  where
-    go : (u : Bool) → (u || eqb x x) ≡ true
-    go true = refl
-    go false = to-true (eqb-reflects x x) refl
+also-same t x = ap (λ u. t x || u) (to-true (eqb-reflects x x) refl) ∙ or-true (t x)
 
 also-other : (t : ℕ → Bool) (x y : ℕ) → y ≢ x → also t x y ≡ t y
 unfolding also
-also-other t x y h = go (t y)
-  where
-    go : (u : Bool) → (u || eqb y x) ≡ u
-    go true = refl
-    go false = to-false (eqb-reflects y x) h
+also-other t x y h = ap (λ u. t y || u) (to-false (eqb-reflects y x) h) ∙ or-false (t y)
 
 -- how many blocks have not been seen
 abbrev unseen : State → (ℕ → Bool) → ℕ
@@ -70,7 +62,7 @@ ground-bound s fits b h w =
     ap (λ i. down s i b) (sym (count-all (λ x. true) (length s) (λ c l m. refl)))
     ∙ within s fits (w .steps) b h (w .reaches) (λ x. false) (λ j d. refl)
 
-pub grounded-reflects : (s : State) → ((b : ℕ) → support s b ≤ length s) → (b : ℕ) → b ≤ length s → Reflects (Grounded s b) (groundedᵇ s b)
+pub grounded-test : (s : State) → ((b : ℕ) → support s b ≤ length s) → (b : ℕ) → b ≤ length s → Reflects (Grounded s b) (groundedᵇ s b)
 unfolding groundedᵇ
-grounded-reflects s fits b h =
+grounded-test s fits b h =
     reflects-iff (λ e. record { steps = length s; reaches = e }) (ground-bound s fits b h) (eqb-reflects (down s (length s) b) 0)

@@ -1,5 +1,3 @@
-pub mod Reflect
-pub mod SearchLaws
 pub mod StateLaws
 pub mod FrameLaws
 pub mod TowerLaws
@@ -18,6 +16,7 @@ pub mod StepLaws
 pub mod MethodLaws
 pub mod DeadlockTestLaws
 pub mod QuestionLaws
+pub mod DecidedLaws
 pub mod ReplayLaws
 pub mod FlatLaws
 pub mod AnswerLaws

@@ -13,14 +13,14 @@ use lib.ListN.{length, getD, length-append, List·getD-append}
 use lib.Seq.{getD-at}
 use Rattle.blocks.specs.State.{State, Block, Above}
 use Rattle.blocks.specs.Position.{Problem, Misplaced}
-use Rattle.blocks.specs.Search.{lowest, count}
+use Rattle.lists.specs.Search.{lowest, count}
 use Rattle.blocks.specs.Tests.{waitingᵇ}
 use Rattle.blocks.specs.Loop.{blocker, top, successor, memberᵇ, from, before, walk, loop, lowestOf, onward}
 use Rattle.blocks.specs.Deadlock.{wrap, next, Deadlock}
 use Rattle.blocks.specs.Stall.{IsLoop, NoneReady, Perched, Waiting}
-use Rattle.blocks.proofs.Reflect.{Reflects, holds, fails, from-true, to-true, to-false, not-not, reflects-or, reflects-iff, eqb-reflects, leb-reflects, ltb-reflects}
-use Rattle.blocks.proofs.SearchLaws.{lowest-passes, lowest-first, lowest-none, count-all, count-one-more}
-use Rattle.blocks.proofs.PositionLaws.{misplaced-block, waiting-reflects}
+use Rattle.lists.proofs.ReflectLaws.{Reflects, holds, fails, from-true, to-true, to-false, not-not, reflects-or, reflects-iff, eqb-reflects, leb-reflects, ltb-reflects}
+use Rattle.lists.proofs.SearchLaws.{lowest-passes, lowest-first, lowest-none, count-all, count-one-more}
+use Rattle.blocks.proofs.PositionLaws.{misplaced-block, waiting-test}
 use Rattle.blocks.proofs.StallLaws.{above-off-table, waiting-above, successor-waits}
 
 -- ---- membership
@@ -212,10 +212,10 @@ module _ {s g : State} (p : Problem s g) (still : NoneReady s g) where
           let a = top s (length s) b in
           let w = waiting-above p b m in
           let k = misplaced-block (p .same) (w .0) in
-          lowest-there (waitingᵇ s g) (length s) a (k .low) (k .high) (to-true (waiting-reflects s g (p .initial) a) w)
+          lowest-there (waitingᵇ s g) (length s) a (k .low) (k .high) (to-true (waiting-test s g (p .initial) a) w)
 
       waits : Waiting s g start
-      waits = from-true (waiting-reflects s g (p .initial) start) (lowest-passes (waitingᵇ s g) (length s) found)
+      waits = from-true (waiting-test s g (p .initial) start) (lowest-passes (waitingᵇ s g) (length s) found)
 
 pub loop-closed : {s g : State} → Problem s g → NoneReady s g → {b : ℕ} → Misplaced s g b → IsLoop s g (loop s g)
 loop-closed p still m = loop-both p still m .0

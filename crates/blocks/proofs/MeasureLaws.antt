@@ -6,31 +6,31 @@ use Prim.Native.Nat.{ℕ, suc, _*_, _≤_}
 use native.Mathlib.Omega.{arith}
 use lib.ListN.{length}
 use Rattle.blocks.specs.State.{State, support, put}
-use Rattle.blocks.specs.Search.{count}
+use Rattle.lists.specs.Search.{count}
 use Rattle.blocks.specs.Position.{Proper, Problem, Misplaced}
 use Rattle.blocks.specs.Move.{Legal, Constructive}
 use Rattle.blocks.specs.Tests.{misplacedᵇ, misplacedCount, twiceᵇ, measure}
-use Rattle.blocks.proofs.Reflect.{Reflects, from-true, to-true, to-false, decided, reflects-and, reflects-not, reflects-same, eqb-reflects, same?}
-use Rattle.blocks.proofs.SearchLaws.{count-le, count-ext, count-mono, count-one-more}
+use Rattle.lists.proofs.ReflectLaws.{Reflects, from-true, to-true, to-false, decided, reflects-and, reflects-not, reflects-same, eqb-reflects, same?}
+use Rattle.lists.proofs.SearchLaws.{count-le, count-ext, count-mono, count-one-more}
 use Rattle.blocks.proofs.StateLaws.{length-put, support-put-other}
 use Rattle.blocks.proofs.FrameLaws.{support-moved, position-frame, position-unframe, proper-moved}
-use Rattle.blocks.proofs.PositionLaws.{misplaced-reflects, position-moved, position-table}
+use Rattle.blocks.proofs.PositionLaws.{misplaced-test, position-moved, position-table}
 use Rattle.blocks.proofs.MisplacedLaws.{misplaced-falls, misplaced-stays}
 
 -- a misplaced block off the table now and in the goal
 abbrev pub Twice : State → State → ℕ → Type 0
 Twice s g b = Misplaced s g b × ((support s b ≢ 0) × (support g b ≢ 0))
 
-pub twice-reflects : (s g : State) → Proper s → (b : ℕ) → Reflects (Twice s g b) (twiceᵇ s g b)
+pub twice-test : (s g : State) → Proper s → (b : ℕ) → Reflects (Twice s g b) (twiceᵇ s g b)
 unfolding twiceᵇ
-twice-reflects s g p b =
-    reflects-and (misplaced-reflects s g p b) (reflects-and (reflects-not (eqb-reflects (support s b) 0)) (reflects-not (eqb-reflects (support g b) 0)))
+twice-test s g p b =
+    reflects-and (misplaced-test s g p b) (reflects-and (reflects-not (eqb-reflects (support s b) 0)) (reflects-not (eqb-reflects (support g b) 0)))
 
 -- the measure is at most twice the misplaced count, and so at most twice the number of blocks
 pub measure-le : (s g : State) → Proper s → measure s g ≤ 2 * misplacedCount s g
 unfolding measure misplacedCount
 measure-le s g p =
-    omega (arith, count-mono (twiceᵇ s g) (misplacedᵇ s g) (length s) (λ c _ _ e. to-true (misplaced-reflects s g p c) (from-true (twice-reflects s g p c) e .0)))
+    omega (arith, count-mono (twiceᵇ s g) (misplacedᵇ s g) (length s) (λ c _ _ e. to-true (misplaced-test s g p c) (from-true (twice-test s g p c) e .0)))
 
 pub misplaced-le : (s g : State) → misplacedCount s g ≤ length s
 unfolding misplacedCount
@@ -47,8 +47,8 @@ module _ {s g : State} {a x : ℕ} (p : Problem s g) (l : Legal s a x) where
       reflects-same
       (λ w. (λ i. w .0 (position-unframe l h i), (λ z. w .1 .0 (sym e ∙ z), w .1 .1)))
       (λ w. (λ i. w .0 (position-frame l h i), (λ z. w .1 .0 (e ∙ z), w .1 .1)))
-      (twice-reflects s g (p .initial) c)
-      (twice-reflects (put s a x) g proper c)
+      (twice-test s g (p .initial) c)
+      (twice-test (put s a x) g proper c)
 
   same-count : count (twiceᵇ (put s a x) g) (length (put s a x)) ≡ count (twiceᵇ (put s a x) g) (length s)
   same-count = ap (count (twiceᵇ (put s a x) g)) (length-put s a x)
@@ -56,7 +56,7 @@ module _ {s g : State} {a x : ℕ} (p : Problem s g) (l : Legal s a x) where
   twice-falls : Twice s g a → ¬ Twice (put s a x) g a → count (twiceᵇ s g) (length s) ≡ suc (count (twiceᵇ (put s a x) g) (length (put s a x)))
   twice-falls w n =
       count-one-more (twiceᵇ s g) (twiceᵇ (put s a x) g) (length s) a (l .block .low) (l .block .high)
-      (to-true (twice-reflects s g (p .initial) a) w) (to-false (twice-reflects (put s a x) g proper a) n) (λ c _ _ h. twice-elsewhere c h)
+      (to-true (twice-test s g (p .initial) a) w) (to-false (twice-test (put s a x) g proper a) n) (λ c _ _ h. twice-elsewhere c h)
       ∙ ap suc (sym same-count)
 
   twice-stays : ¬ Twice s g a → ¬ Twice (put s a x) g a → count (twiceᵇ s g) (length s) ≡ count (twiceᵇ (put s a x) g) (length (put s a x))
@@ -64,7 +64,7 @@ module _ {s g : State} {a x : ℕ} (p : Problem s g) (l : Legal s a x) where
     where
       at : (c : ℕ) → (c ≡ a) ⊎ (¬ (c ≡ a)) → twiceᵇ s g c ≡ twiceᵇ (put s a x) g c
       at c (inl e) =
-          ap (twiceᵇ s g) e ∙ to-false (twice-reflects s g (p .initial) a) m ∙ sym (to-false (twice-reflects (put s a x) g proper a) n) ∙ ap (twiceᵇ (put s a x) g) (sym e)
+          ap (twiceᵇ s g) e ∙ to-false (twice-test s g (p .initial) a) m ∙ sym (to-false (twice-test (put s a x) g proper a) n) ∙ ap (twiceᵇ (put s a x) g) (sym e)
       at c (inr h) = twice-elsewhere c h
 
 -- a constructive move
@@ -78,7 +78,7 @@ module _ {s g : State} {a x : ℕ} (p : Problem s g) (c : Constructive s g a x) 
 
   pub measure-constructive : suc (measure (put s a x) g) ≤ measure s g
   unfolding measure
-  measure-constructive = by (decided (twice-reflects s g (p .initial) a))
+  measure-constructive = by (decided (twice-test s g (p .initial) a))
     where
       by : Twice s g a ⊎ (¬ Twice s g a) → suc (measure (put s a x) g) ≤ measure s g
       by (inl w) = omega (arith, fewer, twice-falls p (c .legal) w home)
@@ -106,6 +106,6 @@ measure-table {s} {g} {a} p l m off = by (same? (support g a) 0)
         both =
             omega (
               arith,
-              misplaced-stays p l (to-true (misplaced-reflects s g (p .initial) a) m ∙ sym (to-true (misplaced-reflects (put s a 0) g (proper-moved l (p .initial)) a) after)),
+              misplaced-stays p l (to-true (misplaced-test s g (p .initial) a) m ∙ sym (to-true (misplaced-test (put s a 0) g (proper-moved l (p .initial)) a) after)),
               twice-falls p l (m, (off, n)) (λ w. w .1 .0 (support-moved l)),
             )

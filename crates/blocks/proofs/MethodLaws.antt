@@ -10,17 +10,17 @@ use Rattle.blocks.specs.State.{State, support, put, down, Clear}
 use Rattle.blocks.specs.Position.{Problem, Misplaced}
 use Rattle.blocks.specs.Move.{Plan, Constructive, CarefulPlan, Solves, after}
 use Rattle.blocks.specs.Deadlock.{Deadlocked}
-use Rattle.blocks.specs.Search.{lowest}
+use Rattle.lists.specs.Search.{lowest}
 use Rattle.blocks.specs.Tests.{misplacedᵇ, misplacedCount, measure}
 use Rattle.blocks.specs.Loop.{loop, top, successor}
 use Rattle.blocks.specs.Method.{plan, precede, andThen, iterate, fuel, lowestPerched, lowestOnLoop, clearing, building, solving, Method, Us, Gn1, Gn2, outcome}
 use Rattle.blocks.specs.Stall.{NoneReady, Perched, Waiting, Moves}
-use Rattle.blocks.proofs.Reflect.{from-true, not-not, eqb-reflects}
-use Rattle.blocks.proofs.SearchLaws.{lowest-passes, lowest-none, count-none}
+use Rattle.lists.proofs.ReflectLaws.{from-true, not-not, eqb-reflects}
+use Rattle.lists.proofs.SearchLaws.{lowest-passes, lowest-none, count-none}
 use Rattle.blocks.proofs.StateLaws.{support-put-other, down-table}
 use Rattle.blocks.proofs.FrameLaws.{problem-moved, position-frame, clear-frame}
 use Rattle.blocks.proofs.TowerLaws.{Reaches}
-use Rattle.blocks.proofs.PositionLaws.{position-moved, position-table, misplaced-block, misplaced-reflects}
+use Rattle.blocks.proofs.PositionLaws.{position-moved, position-table, misplaced-block, misplaced-test}
 use Rattle.blocks.proofs.DeadlockLaws.{deadlock-old}
 use Rattle.blocks.proofs.MisplacedLaws.{none-misplaced-is-goal}
 use Rattle.blocks.proofs.StallLaws.{top-clear, waiting-above, successor-waits, above-off-table}
@@ -40,7 +40,7 @@ some-misplaced {s} {g} p n = by (lowest (misplacedᵇ s g) (length s)) refl
     by zero e = absurd (n (count-none (misplacedᵇ s g) (length s) (lowest-none (misplacedᵇ s g) (length s) e)))
     by (suc i) e =
         let found : lowest (misplacedᵇ s g) (length s) ≢ 0 = λ z. absurd (omega (arith, e, z)) in
-        (suc i, from-true (misplaced-reflects s g (p .initial) (suc i)) (ap (misplacedᵇ s g) (sym e) ∙ lowest-passes (misplacedᵇ s g) (length s) found))
+        (suc i, from-true (misplaced-test s g (p .initial) (suc i)) (ap (misplacedᵇ s g) (sym e) ∙ lowest-passes (misplacedᵇ s g) (length s) found))
 
 -- in a stalled state with a misplaced block some block is perched: the successor of a misplaced clear one
 pub perched-exists : {s g : State} → Problem s g → NoneReady s g → {b : ℕ} → Misplaced s g b → (c : ℕ) × Perched s g c

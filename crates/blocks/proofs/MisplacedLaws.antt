@@ -5,27 +5,27 @@ use Prim.Native.Nat.{ℕ, suc, _≤_}
 use native.Mathlib.Omega.{arith}
 use lib.ListN.{length}
 use Rattle.blocks.specs.State.{State, put}
-use Rattle.blocks.specs.Search.{count}
+use Rattle.lists.specs.Search.{count}
 use Rattle.blocks.specs.Position.{Proper, Problem, InPosition, Misplaced}
 use Rattle.blocks.specs.Move.{Legal, Constructive}
 use Rattle.blocks.specs.Tests.{misplacedᵇ, misplacedCount}
-use Rattle.blocks.proofs.Reflect.{from-false, to-true, to-false, not-not, decided, reflects-same, eqb-reflects}
-use Rattle.blocks.proofs.SearchLaws.{count-ext, count-none, count-zero, count-one-more}
+use Rattle.lists.proofs.ReflectLaws.{from-false, to-true, to-false, not-not, decided, reflects-same, eqb-reflects}
+use Rattle.lists.proofs.SearchLaws.{count-ext, count-none, count-zero, count-one-more}
 use Rattle.blocks.proofs.StateLaws.{length-put}
 use Rattle.blocks.proofs.FrameLaws.{support-moved, position-frame, position-unframe, proper-moved}
-use Rattle.blocks.proofs.PositionLaws.{position-reflects, misplaced-reflects, position-goal, position-beneath, misplaced-block, all-positions}
+use Rattle.blocks.proofs.PositionLaws.{position-test, misplaced-test, position-goal, position-beneath, misplaced-block, all-positions}
 
 -- nothing is misplaced exactly in the goal
 pub none-misplaced-goal : (g : State) → Proper g → misplacedCount g g ≡ 0
 unfolding misplacedCount
-none-misplaced-goal g p = count-none (misplacedᵇ g g) (length g) (λ b l h. to-false (misplaced-reflects g g p b) (λ m. m (position-goal g b)))
+none-misplaced-goal g p = count-none (misplacedᵇ g g) (length g) (λ b l h. to-false (misplaced-test g g p b) (λ m. m (position-goal g b)))
 
 pub none-misplaced : {s g : State} → Problem s g → misplacedCount s g ≡ 0 → (b : ℕ) → InPosition s g b
 unfolding misplacedCount
 none-misplaced {s} {g} p e b =
-    not-not (position-reflects s g (p .initial) b) (λ m.
+    not-not (position-test s g (p .initial) b) (λ m.
     let w = misplaced-block (p .same) m in
-    from-false (misplaced-reflects s g (p .initial) b) (count-zero (misplacedᵇ s g) (length s) e b (w .low) (w .high)) m)
+    from-false (misplaced-test s g (p .initial) b) (count-zero (misplacedᵇ s g) (length s) e b (w .low) (w .high)) m)
 
 pub none-misplaced-is-goal : {s g : State} → Problem s g → misplacedCount s g ≡ 0 → s ≡ g
 none-misplaced-is-goal {s} {g} p e = all-positions s g (p .same) (none-misplaced p e)
@@ -42,7 +42,7 @@ module _ {s g : State} {a x : ℕ} (p : Problem s g) (l : Legal s a x) where
   -- every other block is as it was
   pub misplaced-elsewhere : (c : ℕ) → c ≢ a → misplacedᵇ s g c ≡ misplacedᵇ (put s a x) g c
   misplaced-elsewhere c h =
-      reflects-same (λ m i. m (position-unframe l h i)) (λ m i. m (position-frame l h i)) (misplaced-reflects s g (p .initial) c) (misplaced-reflects (put s a x) g proper c)
+      reflects-same (λ m i. m (position-unframe l h i)) (λ m i. m (position-frame l h i)) (misplaced-test s g (p .initial) c) (misplaced-test (put s a x) g proper c)
 
   same-count : misplacedCount (put s a x) g ≡ count (misplacedᵇ (put s a x) g) (length s)
   unfolding misplacedCount
@@ -52,7 +52,7 @@ module _ {s g : State} {a x : ℕ} (p : Problem s g) (l : Legal s a x) where
   unfolding misplacedCount
   misplaced-falls m i =
       count-one-more (misplacedᵇ s g) (misplacedᵇ (put s a x) g) (length s) a (l .block .low) (l .block .high)
-      (to-true (misplaced-reflects s g (p .initial) a) m) (to-false (misplaced-reflects (put s a x) g proper a) (λ n. n i)) (λ c _ _ h. misplaced-elsewhere c h)
+      (to-true (misplaced-test s g (p .initial) a) m) (to-false (misplaced-test (put s a x) g proper a) (λ n. n i)) (λ c _ _ h. misplaced-elsewhere c h)
       ∙ ap suc (sym same-count)
 
   pub misplaced-rises : InPosition s g a → Misplaced (put s a x) g a → misplacedCount (put s a x) g ≡ suc (misplacedCount s g)
@@ -60,7 +60,7 @@ module _ {s g : State} {a x : ℕ} (p : Problem s g) (l : Legal s a x) where
   misplaced-rises i m =
       same-count
       ∙ count-one-more (misplacedᵇ (put s a x) g) (misplacedᵇ s g) (length s) a (l .block .low) (l .block .high)
-      (to-true (misplaced-reflects (put s a x) g proper a) m) (to-false (misplaced-reflects s g (p .initial) a) (λ n. n i)) (λ c _ _ h. sym (misplaced-elsewhere c h))
+      (to-true (misplaced-test (put s a x) g proper a) m) (to-false (misplaced-test s g (p .initial) a) (λ n. n i)) (λ c _ _ h. sym (misplaced-elsewhere c h))
 
   pub misplaced-stays : (misplacedᵇ s g a ≡ misplacedᵇ (put s a x) g a) → misplacedCount s g ≡ misplacedCount (put s a x) g
   unfolding misplacedCount
@@ -81,13 +81,13 @@ module _ {s g : State} {a x : ℕ} (p : Problem s g) (l : Legal s a x) where
       }
 
   pub effect : Effect s g a x
-  effect = by (decided (position-reflects s g (p .initial) a)) (decided (position-reflects (put s a x) g proper a))
+  effect = by (decided (position-test s g (p .initial) a)) (decided (position-test (put s a x) g proper a))
     where
       still : misplacedᵇ s g a ≡ misplacedᵇ (put s a x) g a → Effect s g a x
       still e = other (omega (arith, misplaced-stays e))
 
       by : InPosition s g a ⊎ (¬ InPosition s g a) → InPosition (put s a x) g a ⊎ (¬ InPosition (put s a x) g a) → Effect s g a x
-      by (inl i) (inl j) = still (to-false (misplaced-reflects s g (p .initial) a) (λ m. m i) ∙ sym (to-false (misplaced-reflects (put s a x) g proper a) (λ m. m j)))
+      by (inl i) (inl j) = still (to-false (misplaced-test s g (p .initial) a) (λ m. m i) ∙ sym (to-false (misplaced-test (put s a x) g proper a) (λ m. m j)))
       by (inl i) (inr m) = other (omega (arith, misplaced-rises i m))
       by (inr m) (inl i) = better (constructive-if m i) (misplaced-falls m i)
-      by (inr m) (inr n) = still (to-true (misplaced-reflects s g (p .initial) a) m ∙ sym (to-true (misplaced-reflects (put s a x) g proper a) n))
+      by (inr m) (inr n) = still (to-true (misplaced-test s g (p .initial) a) m ∙ sym (to-true (misplaced-test (put s a x) g proper a) n))

@@ -6,14 +6,14 @@ use Prim.Native.Nat.{ℕ}
 use Rattle.blocks.specs.State.{State, put}
 use Rattle.blocks.specs.Position.{InPosition, Misplaced}
 use Rattle.blocks.specs.Move.{_⟶_, Plan, LegalPlan, CarefulPlan, Moved, first, later, Solves}
-use Rattle.blocks.proofs.Reflect.{same?}
+use Rattle.lists.proofs.ReflectLaws.{same?}
 use Rattle.blocks.proofs.FrameLaws.{position-frame, position-unframe}
 use Rattle.blocks.proofs.PositionLaws.{position-goal}
 use Rattle.blocks.proofs.BoundLaws.{solves-rest}
 
-pub arriving-moves-all : (q : Plan) (s g : State) → Solves s g q → (b : ℕ) → Misplaced s g b → Moved b q
-arriving-moves-all [] s g w b m = absurd (m (subst (λ t. InPosition t g b) (sym (w .arrives)) (position-goal g b)))
-arriving-moves-all ((a ⟶ x) ∷ q) s g w b m = by (same? b a) (λ n. arriving-moves-all q (put s a x) g (solves-rest w) b n)
+pub moves-all : (q : Plan) (s g : State) → Solves s g q → (b : ℕ) → Misplaced s g b → Moved b q
+moves-all [] s g w b m = absurd (m (subst (λ t. InPosition t g b) (sym (w .arrives)) (position-goal g b)))
+moves-all ((a ⟶ x) ∷ q) s g w b m = by (same? b a) (λ n. moves-all q (put s a x) g (solves-rest w) b n)
   where
     by : (b ≡ a) ⊎ (¬ (b ≡ a)) → (Misplaced (put s a x) g b → Moved b q) → Moved b ((a ⟶ x) ∷ q)
     by (inl e) rest = subst (λ c. Moved b ((c ⟶ x) ∷ q)) e first

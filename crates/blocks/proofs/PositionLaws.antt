@@ -10,10 +10,10 @@ use Rattle.blocks.specs.Position.{Proper, Problem, InPosition, Misplaced
 use Rattle.blocks.specs.Move.{Legal, Constructive}
 use Rattle.blocks.specs.Tests.{agreesᵇ, inPositionᵇ, misplacedᵇ, waitingᵇ, readyᵇ, perchedᵇ}
 use Rattle.blocks.specs.Stall.{Perched, Waiting}
-use Rattle.blocks.proofs.Reflect.{Reflects, not-not, decided, reflects-not, reflects-and, reflects-iff, eqb-reflects, leb-reflects}
+use Rattle.lists.proofs.ReflectLaws.{Reflects, not-not, decided, reflects-not, reflects-and, reflects-iff, eqb-reflects, leb-reflects}
 use Rattle.blocks.proofs.StateLaws.{support-outside, same-supports, down-suc, down-add, down-table, down-more}
 use Rattle.blocks.proofs.GroundLaws.{ground-bound}
-use Rattle.blocks.proofs.ClearLaws.{clear-reflects}
+use Rattle.blocks.proofs.ClearLaws.{clear-test}
 use Rattle.blocks.proofs.FrameLaws.{support-moved, position-frame}
 
 -- ---- in position
@@ -90,9 +90,9 @@ agrees-reflects s g (suc k) b =
     both h zero l = h .0
     both h (suc j) l = h .1 j (le-of-suc-le-suc l)
 
-pub position-reflects : (s g : State) → Proper s → (b : ℕ) → Reflects (InPosition s g b) (inPositionᵇ s g b)
+pub position-test : (s g : State) → Proper s → (b : ℕ) → Reflects (InPosition s g b) (inPositionᵇ s g b)
 unfolding inPositionᵇ
-position-reflects s g p b = reflects-iff far (λ i j l. i .agrees j) (agrees-reflects s g (length s) b)
+position-test s g p b = reflects-iff far (λ i j l. i .agrees j) (agrees-reflects s g (length s) b)
   where
     beyond : (k : ℕ) → length s < k → down s k b ≡ 0
     beyond k l = down-more s (suc (length s)) k b l (all-down s p b)
@@ -104,17 +104,17 @@ position-reflects s g p b = reflects-iff far (λ i j l. i .agrees j) (agrees-ref
         at k (inl l) = h k l
         at k (inr n) = let z : down s k b ≡ 0 = beyond k (omega (arith, n)) in ap (support s) z ∙ ap (support g) (sym z)
 
-pub misplaced-reflects : (s g : State) → Proper s → (b : ℕ) → Reflects (Misplaced s g b) (misplacedᵇ s g b)
+pub misplaced-test : (s g : State) → Proper s → (b : ℕ) → Reflects (Misplaced s g b) (misplacedᵇ s g b)
 unfolding misplacedᵇ
-misplaced-reflects s g p b = reflects-not (position-reflects s g p b)
+misplaced-test s g p b = reflects-not (position-test s g p b)
 
-pub waiting-reflects : (s g : State) → Proper s → (b : ℕ) → Reflects (Waiting s g b) (waitingᵇ s g b)
+pub waiting-test : (s g : State) → Proper s → (b : ℕ) → Reflects (Waiting s g b) (waitingᵇ s g b)
 unfolding waitingᵇ
-waiting-reflects s g p b = reflects-and (misplaced-reflects s g p b) (clear-reflects s b)
+waiting-test s g p b = reflects-and (misplaced-test s g p b) (clear-test s b)
 
-pub perched-reflects : (s g : State) → Proper s → (b : ℕ) → Reflects (Perched s g b) (perchedᵇ s g b)
+pub perched-test : (s g : State) → Proper s → (b : ℕ) → Reflects (Perched s g b) (perchedᵇ s g b)
 unfolding perchedᵇ
-perched-reflects s g p b = reflects-and (waiting-reflects s g p b) (reflects-not (eqb-reflects (support s b) 0))
+perched-test s g p b = reflects-and (waiting-test s g p b) (reflects-not (eqb-reflects (support s b) 0))
 
 -- a misplaced clear block whose goal support is clear and in position has a constructive move
 pub ready-constructive : {s g : State} {b : ℕ} → Problem s g → Waiting s g b → Clear s (support g b) → InPosition s g (support g b) → Constructive s g b (support g b)
@@ -131,10 +131,10 @@ ready-constructive {s} {g} {b} p w c i = record { legal = legal; misplaced = w .
           changes = λ e. w .0 (position-on (sym e) (rw (sym e) i));
         }
 
-pub ready-reflects : (s g : State) → Problem s g → (b : ℕ) → Reflects (Constructive s g b (support g b)) (readyᵇ s g b)
+pub ready-test : (s g : State) → Problem s g → (b : ℕ) → Reflects (Constructive s g b (support g b)) (readyᵇ s g b)
 unfolding readyᵇ
-ready-reflects s g p b =
+ready-test s g p b =
     reflects-iff
     (λ h. ready-constructive p (h .0) (h .1 .0) (h .1 .1))
     (λ c. ((c .misplaced, c .legal .clear), (c .legal .free, c .position)))
-    (reflects-and (waiting-reflects s g (p .initial) b) (reflects-and (clear-reflects s (support g b)) (position-reflects s g (p .initial) (support g b))))
+    (reflects-and (waiting-test s g (p .initial) b) (reflects-and (clear-test s (support g b)) (position-test s g (p .initial) (support g b))))

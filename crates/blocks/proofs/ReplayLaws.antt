@@ -1,32 +1,31 @@
 -- Replay computes what its plain sentences say: the tests of one move, and the verdict and the place of a plan. Assumes nothing.
-use mathlib.Core.Path.{_≡_, refl, sym, ap, _∙_}
-use mathlib.Core.Logic.{_⊎_, inl, inr, _↔_, _≢_}
-use mathlib.Core.Bool.{Bool, not, _&&_}
+use mathlib.Core.Path.{_≡_, refl, sym, ap, _∙_, subst}
+use mathlib.Core.Logic.{inl, inr, _↔_, _≢_, Iff·trans}
+use mathlib.Core.Bool.{not, _&&_}
 use mathlib.Core.List.{[], _∷_, _++_, append-nil}
 use Prim.Native.Nat.{ℕ, zero, suc, _+_, _≤_}
 use native.Mathlib.Omega.{arith}
 use lib.Dec.{eqb, leb}
 use lib.ListN.{length}
 use lib.Seq.{ext-getD}
-use Rattle.blocks.specs.State.{State, Block, support, put, Clear}
-use Rattle.blocks.specs.Search.{Lowest}
+use Rattle.lists.specs.Search.{Lowest}
+use Rattle.blocks.specs.State.{State, Block, support, put}
 use Rattle.blocks.specs.Move.{_⟶_, Plan, Legal, after, LegalPlan, Solves}
-use Rattle.blocks.specs.Tests.{clearᵇ}
-use Rattle.blocks.specs.Question.{Asked, asks, allYes, no′, firstNo}
-use Rattle.blocks.specs.Replay.{BadMove, outside, covered, already, taken, Replayed, arrives, faulty, differs}
-use Rattle.blocks.specs.Answer.{ReplayAnswer, moveQuestions, firstDifference, arrival, orBad, replayFrom}
-use Rattle.blocks.proofs.Reflect.{Reflects, holds, fails, to-true, to-false, decided, not-not, reflects-not, reflects-and, reflects-iff}
-use Rattle.blocks.proofs.Reflect.{eqb-reflects, leb-reflects}
-use Rattle.blocks.proofs.SearchLaws.{lowest-zero, lowest-found, lowest-absent, lowest-unique}
+use Rattle.blocks.specs.Loop.{memberᵇ}
+use Rattle.blocks.specs.Question.{Asked, allYes, no′, firstNo, FirstNo, numbers}
+use Rattle.blocks.specs.Replay.{moveQuestions, BadMove, Replayed, arrives, faulty, differs}
+use Rattle.blocks.specs.Answer.{ReplayAnswer, firstDifference, arrival, orBad, replayFrom}
+use Rattle.lists.proofs.ReflectLaws.{Reflects, to-false, not-not, reflects-not, reflects-and, reflects-iff, eqb-reflects, leb-reflects}
+use Rattle.lists.proofs.SearchLaws.{lowest-zero, lowest-found, lowest-absent, lowest-unique}
 use Rattle.blocks.proofs.StateLaws.{length-put}
-use Rattle.blocks.proofs.ClearLaws.{clear-reflects}
+use Rattle.blocks.proofs.ClearLaws.{clear-test}
+use Rattle.blocks.proofs.QuestionLaws.{Decides, asks-decided, first-no, other-number}
 
 -- ---- one move
 
--- what a move is, beside what its tests come to
-data Judged (s : State) (a x : ℕ) : Asked → Type 0 where
-  good : Legal s a x → Judged s a x allYes
-  bad : {v : ℕ} → BadMove s a x v → Judged s a x (no′ v 0)
+pub move-order : (s : State) (a x : ℕ) → numbers (moveQuestions s a x) ≡ 1 ∷ 2 ∷ 3 ∷ 4 ∷ []
+unfolding moveQuestions
+move-order s a x = refl
 
 module _ (s : State) (a x : ℕ) where
   inside? : Reflects (Block s a × (x ≤ length s)) (leb 1 a && (leb a (length s) && leb x (length s)))
@@ -35,69 +34,46 @@ module _ (s : State) (a x : ℕ) where
       (λ h. (h .0 .low, (h .0 .high, h .1)))
       (reflects-and (leb-reflects 1 a) (reflects-and (leb-reflects a (length s)) (leb-reflects x (length s))))
 
-  elsewhere? : Reflects (x ≢ support s a) (not (eqb x (support s a)))
-  elsewhere? = reflects-not (eqb-reflects x (support s a))
-
-  fit? : Reflects ((x ≢ a) × Clear s x) (not (eqb x a) && clearᵇ s x)
-  fit? = reflects-and (reflects-not (eqb-reflects x a)) (clear-reflects s x)
-
-  legal-passes : Legal s a x → firstNo (moveQuestions s a x) ≡ allYes
+  pub move-decides : Decides (moveQuestions s a x)
   unfolding moveQuestions
-  legal-passes l =
-      rw (to-true inside? (l .block, l .inside), to-true (clear-reflects s a) (l .clear), to-true elsewhere? (l .changes), to-true fit? (l .apart, l .free))
+  move-decides = (
+    asks-decided inside?,
+    λ _. (
+      asks-decided (clear-test s a),
+      λ _. (
+        asks-decided (reflects-not (eqb-reflects x (support s a))),
+        λ _.
+            (asks-decided (reflects-and (reflects-not (eqb-reflects x a)) (clear-test s x)), λ _. tt),
+      ),
+    ),
+  )
 
-  bad-fails : {v : ℕ} → BadMove s a x v → firstNo (moveQuestions s a x) ≡ no′ v 0
+  -- a move is legal exactly where all is yes, and a bad move is the first "no"
+  pub move-yes : (firstNo (moveQuestions s a x) ≡ allYes) ↔ Legal s a x
   unfolding moveQuestions
-  bad-fails (outside n) = rw (to-false inside? n)
-  bad-fails (covered b i n) = rw (to-true inside? (b, i), to-false (clear-reflects s a) n)
-  bad-fails (already b i c e) = rw (to-true inside? (b, i), to-true (clear-reflects s a) c, to-false elsewhere? (λ n. n e))
-  bad-fails (taken b i c n w) = rw (to-true inside? (b, i), to-true (clear-reflects s a) c, to-true elsewhere? n, to-false fit? (unfit w))
+  move-yes = Iff·trans (first-no (moveQuestions s a x) move-decides allYes) (
+    λ y. record { block = y .0 .0; inside = y .0 .1; clear = y .1 .0; changes = y .1 .1 .0; apart = y .1 .1 .1 .0 .0; free = y .1 .1 .1 .0 .1 },
+    λ l. ((l .block, l .inside), (l .clear, (l .changes, ((l .apart, l .free), tt)))),
+  )
+
+  pub move-no : (v q : ℕ) → (firstNo (moveQuestions s a x) ≡ no′ v q) ↔ (BadMove s a x v × (q ≡ 0))
+  unfolding moveQuestions
+  move-no v q = (λ e. let r = law q .0 e in let z : q ≡ 0 = placeless r in (subst (FirstNo (moveQuestions s a x) v) z r, z), λ h. law 0 .1 (h .0) ∙ ap (no′ v) (sym (h .1)))
     where
-      unfit : (x ≡ a) ⊎ (¬ Clear s x) → (x ≢ a) × Clear s x → ⊥
-      unfit (inl e) h = h .0 e
-      unfit (inr m) h = m (h .1)
+      law : (q : ℕ) → (firstNo (moveQuestions s a x) ≡ no′ v q) ↔ FirstNo (moveQuestions s a x) v q
+      law q = first-no (moveQuestions s a x) move-decides (no′ v q)
 
-  judged : Judged s a x (firstNo (moveQuestions s a x))
-  unfolding moveQuestions
-  judged = by inside? (clear-reflects s a) elsewhere? fit?
-    where
-      unfit : ¬ ((x ≢ a) × Clear s x) → (x ≡ a) ⊎ (¬ Clear s x)
-      unfit n = of (decided (eqb-reflects x a))
-        where
-          of : (x ≡ a) ⊎ (x ≢ a) → (x ≡ a) ⊎ (¬ Clear s x)
-          of (inl e) = inl e
-          of (inr m) = inr (λ c. n (m, c))
+      placeless : FirstNo (moveQuestions s a x) v q → q ≡ 0
+      placeless (inl f) = f .1 .0
+      placeless (inr (_, inl f)) = f .1 .0
+      placeless (inr (_, inr (_, inl f))) = f .1 .0
+      placeless (inr (_, inr (_, inr (_, inl f)))) = f .1 .0
+      placeless (inr (_, inr (_, inr (_, inr (_, f))))) = absurd f
 
-      by : {i c e f : Bool} → Reflects (Block s a × (x ≤ length s)) i → Reflects (Clear s a) c → Reflects (x ≢ support s a) e → Reflects ((x ≢ a) × Clear s x) f
-          → Judged s a x (firstNo (asks 1 i 0 ∷ asks 2 c 0 ∷ asks 3 e 0 ∷ asks 4 f 0 ∷ []))
-      by (fails n) c e f = bad (outside n)
-      by (holds i) (fails n) e f = bad (covered (i .0) (i .1) n)
-      by (holds i) (holds c) (fails n) f = bad (already (i .0) (i .1) c (not-not (eqb-reflects x (support s a)) n))
-      by (holds i) (holds c) (holds e) (fails n) = bad (taken (i .0) (i .1) c e (unfit n))
-      by (holds i) (holds c) (holds e) (holds f) = good (record { block = i .0; inside = i .1; clear = c; free = f .1; apart = f .0; changes = e })
-
--- the tests of one move pass exactly for legal moves, and fail with v exactly for moves that are bad with v
-pub move-yes : (s : State) (a x : ℕ) → (firstNo (moveQuestions s a x) ≡ allYes) ↔ Legal s a x
-move-yes s a x = (λ e. legal (judged s a x) e, legal-passes s a x)
-  where
-    legal : {w : Asked} → Judged s a x w → w ≡ allYes → Legal s a x
-    legal (good l) e = l
-    legal (bad b) e = let z : _≡_ {A = ℕ} 0 1 = cc in absurd (omega arith)
-
-pub move-no : (s : State) (a x v q : ℕ) → (firstNo (moveQuestions s a x) ≡ no′ v q) ↔ (BadMove s a x v × (q ≡ 0))
-move-no s a x v q = (λ e. faults (judged s a x) e, λ h. bad-fails s a x (h .0) ∙ ap (λ k. no′ v k) (sym (h .1)))
-  where
-    faults : {w : Asked} → Judged s a x w → w ≡ no′ v q → BadMove s a x v × (q ≡ 0)
-    faults (good l) e = let z : _≡_ {A = ℕ} 0 1 = cc in absurd (omega arith)
-    faults (bad {v = u} b) e = let i : u ≡ v = cc in (rw (← i) b, cc)
+  bad-verdict : (v : ℕ) → BadMove s a x v → v ≢ 0
+  bad-verdict v b = other-number (moveQuestions s a x) 0 (ap (memberᵇ 0) (move-order s a x)) v 0 b
 
 -- ---- a plan
-
-bad-verdict : {s : State} {a x v : ℕ} → BadMove s a x v → v ≢ 0
-bad-verdict (outside n) e = omega arith
-bad-verdict (covered b i n) e = omega arith
-bad-verdict (already b i c n) e = omega arith
-bad-verdict (taken b i c n w) e = omega arith
 
 length-after : (s : State) (p : Plan) → length (after s p) ≡ length s
 length-after s [] = refl
@@ -106,23 +82,26 @@ length-after s ((a ⟶ x) ∷ p) = length-after (put s a x) p ∙ length-put s a
 -- a plan is legal, or it has a first bad move
 data Walked (s : State) (p : Plan) : Type 0 where
   whole : LegalPlan s p → Walked s p
-  stops : {v : ℕ} (q : Plan) (a x : ℕ) (r : Plan) → p ≡ q ++ ((a ⟶ x) ∷ r) → LegalPlan s q → BadMove (after s q) a x v → Walked s p
+  stops : (v : ℕ) (q : Plan) (a x : ℕ) (r : Plan) → p ≡ q ++ ((a ⟶ x) ∷ r) → LegalPlan s q → BadMove (after s q) a x v → Walked s p
 
 walked : (s : State) (p : Plan) → Walked s p
 walked s [] = whole tt
-walked s ((a ⟶ x) ∷ p) = by (judged s a x) (walked (put s a x) p)
+walked s ((a ⟶ x) ∷ p) = by (firstNo (moveQuestions s a x)) refl (walked (put s a x) p)
   where
-    by : {w : Asked} → Judged s a x w → Walked (put s a x) p → Walked s ((a ⟶ x) ∷ p)
-    by (bad b) m = stops [] a x p refl tt b
-    by (good l) (whole h) = whole (l, h)
-    by (good l) (stops q b y r e h k) = stops ((a ⟶ x) ∷ q) b y r (ap (λ t. (a ⟶ x) ∷ t) e) (l, h) k
+    on : Legal s a x → Walked (put s a x) p → Walked s ((a ⟶ x) ∷ p)
+    on l (whole h) = whole (l, h)
+    on l (stops v q b y r e h k) = stops v ((a ⟶ x) ∷ q) b y r (ap (λ t. (a ⟶ x) ∷ t) e) (l, h) k
+
+    by : (w : Asked) → firstNo (moveQuestions s a x) ≡ w → Walked (put s a x) p → Walked s ((a ⟶ x) ∷ p)
+    by (no′ v q) e m = stops v [] a x p refl tt (move-no s a x v q .0 e .0)
+    by allYes e m = on (move-yes s a x .0 e) m
 
 -- legal moves are followed
 through : (k : ℕ) (s g : State) (q r : Plan) → LegalPlan s q → replayFrom k s g (q ++ r) ≡ replayFrom (length q + k) (after s q) g r
 unfolding replayFrom
 through k s g [] r h = ap (λ n. replayFrom n s g r) (omega arith)
 through k s g ((a ⟶ x) ∷ q) r h =
-    ap (λ w. orBad w k (replayFrom (suc k) (put s a x) g (q ++ r))) (legal-passes s a x (h .0))
+    ap (λ w. orBad w k (replayFrom (suc k) (put s a x) g (q ++ r))) (move-yes s a x .1 (h .0))
     ∙ (through (suc k) (put s a x) g q r (h .1) ∙ ap (λ n. replayFrom n (after (put s a x) q) g r) (omega arith))
 
 abbrev answer : ℕ → ℕ → ReplayAnswer
@@ -165,7 +144,7 @@ answers s g p (arrives w) = ended s g p (w .legal) ∙ ap arrival (difference-no
 answers s g p (faulty {v = v} q a x r e h b) =
     ap (λ t. replayFrom 1 s g t) e
     ∙ (through 1 s g q ((a ⟶ x) ∷ r) h
-    ∙ (ap (λ w. orBad w (length q + 1) (replayFrom (suc (length q + 1)) (put (after s q) a x) g r)) (bad-fails (after s q) a x b)
+    ∙ (ap (λ w. orBad w (length q + 1) (replayFrom (suc (length q + 1)) (put (after s q) a x) g r)) (move-no (after s q) a x v 0 .1 (b, refl))
     ∙ ap (λ n. answer v n) (omega arith)))
 answers s g p (differs {b = b} h w) =
     let l : Lowest (λ c. support (after s p) c ≢ support g c) (length (after s p)) b = rw (length-after s p) w in
@@ -176,7 +155,7 @@ said : (s g : State) → length g ≡ length s → (p : Plan) → (v : ℕ) × (
 said s g same p = by (walked s p)
   where
     by : Walked s p → (v : ℕ) × (k : ℕ) × Replayed s g p v k
-    by (stops {v = v} q a x r e h b) = (v, suc (length q), faulty q a x r e h b)
+    by (stops v q a x r e h b) = (v, suc (length q), faulty q a x r e h b)
     by (whole h) = ends (firstDifference (after s p) g) refl
       where
         ends : (b : ℕ) → firstDifference (after s p) g ≡ b → (v : ℕ) × (k : ℕ) × Replayed s g p v k
@@ -184,9 +163,9 @@ said s g same p = by (walked s p)
         ends (suc i) e = (5, suc i, differs {b = suc i} h (rw (← e, ← length-after s p) (difference-found (after s p) g (omega arith))))
 
 -- replay answers a verdict and a place exactly where they are the plan's
-pub replay-says : (s g : State) → length g ≡ length s → (p : Plan) (v k : ℕ)
+pub replay-verdict : (s g : State) → length g ≡ length s → (p : Plan) (v k : ℕ)
     → (replayFrom 1 s g p ≡ record { number = 0; verdict = v; place = k }) ↔ Replayed s g p v k
-replay-says s g same p v k = (λ e. is (said s g same p) e, answers s g p)
+replay-verdict s g same p v k = (λ e. is (said s g same p) e, answers s g p)
   where
     is : (v : ℕ) × (k : ℕ) × Replayed s g p v k → replayFrom 1 s g p ≡ answer v k → Replayed s g p v k
     is (u, j, w) e =
@@ -199,7 +178,7 @@ replay-arrives s g same p = (λ e. is (said s g same p) e, λ w. ap (λ r. r .ve
   where
     solves : {v k : ℕ} → Replayed s g p v k → v ≡ 0 → Solves s g p
     solves (arrives w) e = w
-    solves (faulty q a x r d h b) e = absurd (bad-verdict b e)
+    solves (faulty q a x r d h b) e = absurd (bad-verdict (after s q) a x _ b e)
     solves (differs h w) e = absurd (omega arith)
 
     is : (v : ℕ) × (k : ℕ) × Replayed s g p v k → (replayFrom 1 s g p) .verdict ≡ 0 → Solves s g p

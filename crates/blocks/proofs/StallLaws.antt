@@ -11,12 +11,12 @@ use Rattle.blocks.specs.Position.{Problem, InPosition, Misplaced}
 use Rattle.blocks.specs.Tests.{load}
 use Rattle.blocks.specs.Loop.{lastMisplaced, blocker, top, successor}
 use Rattle.blocks.specs.Stall.{NoneReady, Waiting}
-use Rattle.blocks.proofs.Reflect.{Reflects, holds, fails}
+use Rattle.lists.proofs.ReflectLaws.{Reflects, holds, fails}
 use Rattle.blocks.proofs.StateLaws.{down-suc, down-table}
 use Rattle.blocks.proofs.TowerLaws.{Reaches}
 use Rattle.blocks.proofs.GroundLaws.{ground-bound}
-use Rattle.blocks.proofs.ClearLaws.{load-rests, load-block, load-none, clear-reflects, clear-table}
-use Rattle.blocks.proofs.PositionLaws.{position-table, position-beneath, misplaced-block, position-reflects, ready-constructive}
+use Rattle.blocks.proofs.ClearLaws.{load-rests, load-block, load-none, clear-test, clear-table}
+use Rattle.blocks.proofs.PositionLaws.{position-table, position-beneath, misplaced-block, position-test, ready-constructive}
 
 -- what is above a block is off the table
 pub above-off-table : {s : State} {a b : ℕ} → Above s a b → support s a ≢ 0
@@ -37,7 +37,7 @@ module _ {s g : State} (p : Problem s g) where
   climb b zero j c h e l r =
       let all : j ≡ length s = omega arith in
       absurd (h (sym r ∙ ap (λ i. down s i c) all ∙ ground-bound s (p .initial .entries) c l (p .initial .grounded c)))
-  climb b (suc k) j c h e l r = go (clear-reflects s c) (λ low q. climb b k (suc j) (load s c) h (omega arith) low q)
+  climb b (suc k) j c h e l r = go (clear-test s c) (λ low q. climb b k (suc j) (load s c) h (omega arith) low q)
     where
       go : {t : Bool} → Reflects (Clear s c) t →
           (load s c ≤ length s → down s (suc j) (load s c) ≡ b → Clear s (top s k (load s c)) × Reaches s (top s k (load s c)) b) →
@@ -67,7 +67,7 @@ module _ {s g : State} (p : Problem s g) where
   descend : (k b : ℕ) → Misplaced s g b → down g k b ≡ 0 → Foot b (lastMisplaced s g k b)
   unfolding lastMisplaced
   descend zero b m e = absurd (misplaced-nonzero m e)
-  descend (suc k) b m e = go (position-reflects s g (p .initial) (support g b)) (λ n. descend k (support g b) n e)
+  descend (suc k) b m e = go (position-test s g (p .initial) (support g b)) (λ n. descend k (support g b) n e)
     where
       go : {t : Bool} → Reflects (InPosition s g (support g b)) t →
           (Misplaced s g (support g b) → Foot (support g b) (lastMisplaced s g k (support g b))) →
@@ -76,10 +76,10 @@ module _ {s g : State} (p : Problem s g) where
       go (fails n) rest = let f = rest n in (f .0, f .1, (suc (f .2 .0), f .2 .1))
 
   -- d of document 01: misplaced, in the goal at or beneath b, its goal support in position
-  pub foot : (b : ℕ) → Misplaced s g b →
+  pub last-misplaced : (b : ℕ) → Misplaced s g b →
       Misplaced s g (lastMisplaced s g (length s) b) × InPosition s g (support g (lastMisplaced s g (length s) b)) ×
       Reaches g b (lastMisplaced s g (length s) b)
-  foot b m =
+  last-misplaced b m =
       let l : b ≤ length g = omega (arith, p .same, misplaced-block (p .same) m .high) in
       descend (length s) b m (rw (p .same) at (ground-bound g (p .goal .entries) b l (p .goal .grounded b)))
 
@@ -114,7 +114,7 @@ module _ {s g : State} (p : Problem s g) where
   pub successor-waits : NoneReady s g → (b : ℕ) → Waiting s g b →
       Waiting s g (successor s g b) × Above s (successor s g b) (blocker s g b) × Above g b (blocker s g b)
   unfolding successor blocker
-  successor-waits still b w = go (clear-reflects s (support g d)) (foot b (w .0))
+  successor-waits still b w = go (clear-test s (support g d)) (last-misplaced b (w .0))
     where
       d : ℕ
       d = lastMisplaced s g (length s) b

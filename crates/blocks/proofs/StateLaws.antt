@@ -7,7 +7,7 @@ use native.Mathlib.Nat.{add-zero, add-suc, le-of-suc-le-suc}
 use lib.ListN.{length, getD, set, length-set, List·getD-eq-default}
 use lib.Seq.{getD-set-same, getD-set-other, ext-getD}
 use Rattle.blocks.specs.State.{State, Block, support, put, down}
-use Rattle.blocks.proofs.Reflect.{not-not, leb-reflects}
+use Rattle.lists.proofs.ReflectLaws.{not-not, leb-reflects}
 
 -- ---- supports
 

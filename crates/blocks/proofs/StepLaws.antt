@@ -6,15 +6,15 @@ use Prim.Native.Nat.{ℕ, zero, suc, _≤_}
 use native.Mathlib.Omega.{arith}
 use lib.ListN.{length}
 use Rattle.blocks.specs.State.{State, support, put}
-use Rattle.blocks.specs.Position.{Problem}
+use Rattle.blocks.specs.Position.{Problem, InPosition, Misplaced}
 use Rattle.blocks.specs.Move.{Legal, Constructive, Careful}
 use Rattle.blocks.specs.Tests.{readyᵇ, perchedᵇ, misplacedCount, measure}
 use Rattle.blocks.specs.Method.{stop, noBlock, toTable, toGoal, lowestPerched, lowestReady, clearing, building, solving}
 use Rattle.blocks.specs.Stall.{NoneReady, Perched, Moves}
-use Rattle.blocks.proofs.Reflect.{Reflects, holds, fails, from-true, from-false, eqb-reflects}
-use Rattle.blocks.proofs.SearchLaws.{lowest-passes, lowest-none}
+use Rattle.lists.proofs.ReflectLaws.{Reflects, holds, fails, from-true, from-false, eqb-reflects}
+use Rattle.lists.proofs.SearchLaws.{lowest-passes, lowest-none}
 use Rattle.blocks.proofs.ClearLaws.{clear-table}
-use Rattle.blocks.proofs.PositionLaws.{perched-reflects, ready-reflects, position-table, misplaced-block}
+use Rattle.blocks.proofs.PositionLaws.{perched-test, ready-test, position-table, misplaced-block}
 use Rattle.blocks.proofs.MeasureLaws.{measure-constructive, measure-table}
 use Rattle.blocks.proofs.RunLaws.{Stepping, goes, stops}
 
@@ -24,23 +24,23 @@ module _ {s g : State} (p : Problem s g) where
   pub ready-found : (i : ℕ) → lowestReady s g ≡ suc i → Constructive s g (suc i) (support g (suc i))
   unfolding lowestReady
   ready-found i e =
-      from-true (ready-reflects s g p (suc i)) (ap (readyᵇ s g) (sym e) ∙ lowest-passes (readyᵇ s g) (length s) (λ z. absurd (omega (arith, z, e))))
+      from-true (ready-test s g p (suc i)) (ap (readyᵇ s g) (sym e) ∙ lowest-passes (readyᵇ s g) (length s) (λ z. absurd (omega (arith, z, e))))
 
   pub ready-none : lowestReady s g ≡ 0 → NoneReady s g
   unfolding lowestReady
   ready-none e b c =
-      from-false (ready-reflects s g p b) (lowest-none (readyᵇ s g) (length s) e b (c .legal .block .low) (c .legal .block .high)) c
+      from-false (ready-test s g p b) (lowest-none (readyᵇ s g) (length s) e b (c .legal .block .low) (c .legal .block .high)) c
 
   pub perched-found : (i : ℕ) → lowestPerched s g ≡ suc i → Perched s g (suc i)
   unfolding lowestPerched
   perched-found i e =
-      from-true (perched-reflects s g (p .initial) (suc i)) (ap (perchedᵇ s g) (sym e) ∙ lowest-passes (perchedᵇ s g) (length s) (λ z. absurd (omega (arith, z, e))))
+      from-true (perched-test s g (p .initial) (suc i)) (ap (perchedᵇ s g) (sym e) ∙ lowest-passes (perchedᵇ s g) (length s) (λ z. absurd (omega (arith, z, e))))
 
   pub perched-none : lowestPerched s g ≡ 0 → (b : ℕ) → ¬ Perched s g b
   unfolding lowestPerched
   perched-none e b w =
       let k = misplaced-block (p .same) (w .0 .0) in
-      from-false (perched-reflects s g (p .initial) b) (lowest-none (perchedᵇ s g) (length s) e b (k .low) (k .high)) w
+      from-false (perched-test s g (p .initial) b) (lowest-none (perchedᵇ s g) (length s) e b (k .low) (k .high)) w
 
   -- a perched block may go to the table
   pub perched-legal : {a : ℕ} → Perched s g a → Legal s a 0
@@ -56,6 +56,15 @@ module _ {s g : State} (p : Problem s g) where
       }
 
 -- ---- moves
+
+-- a method moves a misplaced block, and onto what is in position
+pub moves-misplaced : {s g : State} {a x : ℕ} → Moves s g a x → Misplaced s g a
+moves-misplaced (Moves.builds c) = c .misplaced
+moves-misplaced (Moves.clears w e) = w .0 .0
+
+pub moves-landed : {s g : State} {a x : ℕ} → Moves s g a x → InPosition s g x
+moves-landed (Moves.builds c) = c .position
+moves-landed {s} {g} (Moves.clears w e) = subst (InPosition s g) (sym e) (position-table s g)
 
 module _ {s g : State} {a x : ℕ} (p : Problem s g) where
   pub moves-legal : Moves s g a x → Legal s a x

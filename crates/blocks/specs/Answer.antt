@@ -1,16 +1,17 @@
 -- What every public operation answers, and what the lent space then holds (document 01, "What is lent and written"). Assumes nothing.
-use Prim.Native.Nat.{ℕ, zero, suc, _*_, _%_}
-use mathlib.Core.Bool.{Bool, true, false, not, _&&_}
-use mathlib.Core.List.{List, [], _∷_, _++_}
-use mathlib.Core.Option.{Option, none, some}
-use lib.Dec.{leb, eqb}
-use lib.ListN.{length, drop}
+use Prim.Native.Nat.{ℕ, zero, suc}
+use mathlib.Core.Bool.{not}
+use mathlib.Core.List.{List, [], _∷_}
+use lib.Dec.{eqb}
+use lib.ListN.{length}
+use Rattle.lists.specs.Lists.{overwrite}
+use Rattle.lists.specs.Search.{lowest}
 use Rattle.blocks.specs.State.{State, support, put}
-use Rattle.blocks.specs.Search.{lowest}
 use Rattle.blocks.specs.Move.{_⟶_, Plan}
-use Rattle.blocks.specs.Tests.{clearᵇ, changed}
-use Rattle.blocks.specs.Method.{Outcome, plan, nothingToPutDown, Method, Us, Gn1, Gn2, outcome, deadlockPairs, deadlockLoop}
-use Rattle.blocks.specs.Question.{Question, asks, Asked, allYes, no′, firstNo, problemQuestions}
+use Rattle.blocks.specs.Tests.{changed}
+use Rattle.blocks.specs.Method.{planOf, planOutcome, deadlockPairs, deadlockLoop}
+use Rattle.blocks.specs.Question.{Asked, allYes, no′, firstNo, problemQuestions, planQuestions, deadlockQuestions, replayQuestions}
+use Rattle.blocks.specs.Replay.{moveQuestions}
 
 -- ---- lists of numbers as lists of moves
 
@@ -23,10 +24,6 @@ abbrev pub moves : List ℕ → Plan
 moves [] = []
 moves (a ∷ []) = []
 moves (a ∷ x ∷ l) = (a ⟶ x) ∷ moves l
-
--- "Only the pairs of the answer are written, from the front; the rest of the space is unchanged."
-abbrev pub overwrite : List ℕ → List ℕ → List ℕ
-overwrite written space = written ++ drop (length written) space
 
 -- ---- checking a problem: questions 2 to 9
 
@@ -51,47 +48,6 @@ pub record PlanAnswer : Type 0 where
   pub count : ℕ
   pub changed : ℕ
 
--- The method of a number.
-abbrev pub methodOf : ℕ → Option Method
-methodOf zero = none
-methodOf (suc zero) = some Us
-methodOf (suc (suc zero)) = some Gn1
-methodOf (suc (suc (suc zero))) = some Gn2
-methodOf (suc (suc (suc (suc m)))) = none
-
--- The number of a method.
-abbrev pub numberOf : Method → ℕ
-numberOf Us = 1
-numberOf Gn1 = 2
-numberOf Gn2 = 3
-
--- Its outcome; without a method no plan is asked for.
-abbrev pub outcomeBy : Option Method → State → State → Outcome
-outcomeBy none s g = plan []
-outcomeBy (some m) s g = outcome m s g
-
--- Question 1. "Planning only: is the method 1, 2 or 3?"
-abbrev pub isMethod : Option Method → Bool
-isMethod none = false
-isMethod (some m) = true
-
--- Question 13. "Planning: was there a slab to put down when no constructive lift existed?"
-abbrev pub isPlan : Outcome → Bool
-isPlan (plan p) = true
-isPlan nothingToPutDown = false
-
-abbrev pub planOf : Outcome → Plan
-planOf (plan p) = p
-planOf nothingToPutDown = []
-
-unfoldable pub planOutcome : ℕ → State → State → Outcome
-planOutcome m s g = outcomeBy (methodOf m) s g
-
-unfoldable pub planQuestions : ℕ → State → State → List ℕ → List Question
-planQuestions m s g space =
-    asks 1 (isMethod (methodOf m)) 0
-    ∷ (problemQuestions s g ++ (asks 10 (leb (4 * length s) (length space)) 0 ∷ asks 13 (isPlan (planOutcome m s g)) 0 ∷ []))
-
 abbrev pub planned : Asked → State → State → Plan → PlanAnswer
 planned allYes s g p = record { number = 0; place = 0; count = length p; changed = changed s g }
 planned (no′ k q) s g p = record { number = k; place = q; count = 0; changed = 0 }
@@ -114,9 +70,6 @@ pub record DeadlockAnswer : Type 0 where
   pub place : ℕ
   pub count : ℕ
 
-unfoldable pub deadlockQuestions : State → State → List ℕ → List Question
-deadlockQuestions s g space = problemQuestions s g ++ (asks 10 (leb (2 * length s) (length space)) 0 ∷ [])
-
 abbrev pub tested : Asked → List ℕ → DeadlockAnswer
 tested allYes l = record { number = 0; place = 0; count = length l }
 tested (no′ k q) l = record { number = k; place = q; count = 0 }
@@ -135,16 +88,6 @@ pub record ReplayAnswer : Type 0 where
   pub verdict : ℕ
   pub place : ℕ
 
--- The tests of one lift, "in that order": "1, the slab is not in 1 to n or the destination is above n; 2, the slab is not clear; 3, it already rests there;
--- 4, the destination is the slab itself or a slab that is not clear."
-unfoldable pub moveQuestions : State → ℕ → ℕ → List Question
-moveQuestions s a x =
-    asks 1 (leb 1 a && (leb a (length s) && leb x (length s))) 0
-    ∷ asks 2 (clearᵇ s a) 0
-    ∷ asks 3 (not (eqb x (support s a))) 0
-    ∷ asks 4 (not (eqb x a) && clearᵇ s x) 0
-    ∷ []
-
 -- "5: all lifts are legal and the end differs from the goal; the place is the lowest slab whose support differs." Otherwise "0: arrives, place 0."
 unfoldable pub firstDifference : State → State → ℕ
 firstDifference s g = lowest (λ b. not (eqb (support s b) (support g b))) (length s)
@@ -161,9 +104,6 @@ orBad (no′ v q) k rest = record { number = 0; verdict = v; place = k }
 unfoldable pub replayFrom : ℕ → State → State → Plan → ReplayAnswer
 replayFrom k s g [] = arrival (firstDifference s g)
 replayFrom k s g ((a ⟶ x) ∷ p) = orBad (firstNo (moveQuestions s a x)) k (replayFrom (suc k) (put s a x) g p)
-
-unfoldable pub replayQuestions : State → State → List ℕ → List Question
-replayQuestions s g lifts = problemQuestions s g ++ (asks 11 (eqb (length lifts % 2) 0) 0 ∷ [])
 
 abbrev pub replayed : Asked → ReplayAnswer → ReplayAnswer
 replayed allYes answer = answer

@@ -4,21 +4,21 @@ use Prim.Native.Nat.{ℕ, _+_, _*_, _%_, _≤_, _<_}
 use mathlib.Core.Path.{_≡_}
 use mathlib.Core.Logic.{_≢_, _↔_}
 use mathlib.Core.Bool.{true}
-use mathlib.Core.List.{List, _++_}
+use mathlib.Core.List.{List, [], _∷_, _++_}
 use lib.ListN.{length, getD, take, drop}
 use Rattle.blocks.specs.State.{State, support, down, Above, Clear, Grounded}
-use Rattle.blocks.specs.Search.{Counts}
+use Rattle.lists.specs.Search.{Counts}
 use Rattle.blocks.specs.Position.{Proper, Problem, Accepted, InPosition, Misplaced}
 use Rattle.blocks.specs.Move.{Plan, CarefulPlan, Moved, Solves}
 use Rattle.blocks.specs.Tests.{clearᵇ, groundedᵇ, inPositionᵇ, waitingᵇ, readyᵇ, perchedᵇ, misplacedCount, changed, measure}
 use Rattle.blocks.specs.Deadlock.{next, Deadlock, Deadlocked}
 use Rattle.blocks.specs.Loop.{lastMisplaced, blocker, successor, loop}
 use Rattle.blocks.specs.Stall.{Waiting, Perched, Ready, NoneReady, IsLoop}
-use Rattle.blocks.specs.Method.{Method, Us, plan, outcome, deadlockLoop, deadlockPairs}
-use Rattle.blocks.specs.Question.{firstNo, problemQuestions, allYes, no′, Refused}
-use Rattle.blocks.specs.Replay.{Replayed}
-use Rattle.blocks.specs.Refusal.{PlanRefused, DeadlockRefused, ReplayRefused}
-use Rattle.blocks.specs.Answer.{numberOf, flat, moves, checkAnswer, planQuestions, planAnswer, planSpace, deadlockQuestions, deadlockAnswer, deadlockSpace, replayFrom, replayQuestions, replayAnswer}
+use Rattle.blocks.specs.Method.{Method, Us, plan, outcome, numberOf, deadlockLoop, deadlockPairs}
+use Rattle.blocks.specs.Question.{allYes, no′, firstNo, numbers, IsMethod, problemQuestions, planQuestions, deadlockQuestions, replayQuestions}
+use Rattle.blocks.specs.Question.{Refused, PlanRefused, DeadlockRefused, ReplayRefused}
+use Rattle.blocks.specs.Replay.{moveQuestions, Replayed}
+use Rattle.blocks.specs.Answer.{flat, moves, checkAnswer, planAnswer, planSpace, deadlockAnswer, deadlockSpace, replayFrom, replayAnswer}
 
 -- "without a deadlock at the start": no blocks are deadlocked.
 abbrev pub NoDeadlock : State → State → Type 0
@@ -64,9 +64,21 @@ pub record Theorems : Type 0 where
   pub perched-test : (s g : State) → Proper s → (b : ℕ) → (perchedᵇ s g b ≡ true) ↔ Perched s g b
   pub grounded-test : (s : State) → ((b : ℕ) → support s b ≤ length s) → (b : ℕ) → b ≤ length s → (groundedᵇ s b ≡ true) ↔ Grounded s b
   -- ---- demand 1: refusals
-  -- questions 2 to 9 are all answered yes exactly on accepted problems; the first "no" is what the plain sentences say
+  -- the order asked; of a move, the verdicts
+  pub problem-order : (s g : State) → numbers (problemQuestions s g) ≡ 2 ∷ 3 ∷ 4 ∷ 5 ∷ 6 ∷ 7 ∷ 8 ∷ 9 ∷ []
+  pub plan-order : (m : ℕ) (s g : State) (space : List ℕ)
+      → numbers (planQuestions m s g space) ≡ 1 ∷ 2 ∷ 3 ∷ 4 ∷ 5 ∷ 6 ∷ 7 ∷ 8 ∷ 9 ∷ 10 ∷ 13 ∷ []
+  pub deadlock-order : (s g : State) (space : List ℕ) → numbers (deadlockQuestions s g space) ≡ 2 ∷ 3 ∷ 4 ∷ 5 ∷ 6 ∷ 7 ∷ 8 ∷ 9 ∷ 10 ∷ []
+  pub replay-order : (s g : State) (lifts : List ℕ) → numbers (replayQuestions s g lifts) ≡ 2 ∷ 3 ∷ 4 ∷ 5 ∷ 6 ∷ 7 ∷ 8 ∷ 9 ∷ 11 ∷ []
+  pub move-order : (s : State) (a x : ℕ) → numbers (moveQuestions s a x) ≡ 1 ∷ 2 ∷ 3 ∷ 4 ∷ []
+  -- questions 2 to 9 are all answered yes exactly on accepted problems; the first "no" is what the sentences say
   pub accepts : (s g : State) → (firstNo (problemQuestions s g) ≡ allYes) ↔ Accepted s g
   pub refuses : (s g : State) (k p : ℕ) → (firstNo (problemQuestions s g) ≡ no′ k p) ↔ Refused s g k p
+  -- with a method and enough space planning is answered, with enough space the deadlock test, and with an even list replay
+  pub plan-accepts : (m : ℕ) (s g : State) (space : List ℕ)
+      → (firstNo (planQuestions m s g space) ≡ allYes) ↔ (IsMethod m × Accepted s g × (4 * length s ≤ length space))
+  pub deadlock-accepts : (s g : State) (space : List ℕ) → (firstNo (deadlockQuestions s g space) ≡ allYes) ↔ (Accepted s g × (2 * length s ≤ length space))
+  pub replay-accepts : (s g : State) (lifts : List ℕ) → (firstNo (replayQuestions s g lifts) ≡ allYes) ↔ (Accepted s g × (length lifts % 2 ≡ 0))
   -- a check answers 0 and 0 exactly on accepted problems, and otherwise the first "no"
   pub check-accepts : (s g : State) → (checkAnswer s g ≡ record { number = 0; place = 0 }) ↔ Accepted s g
   pub check-refuses : (s g : State) (k p : ℕ) → Refused s g k p → checkAnswer s g ≡ record { number = k; place = p }

@@ -1,6 +1,4 @@
-pub mod Reflect
 pub mod State
-pub mod Search
 pub mod Position
 pub mod Move
 pub mod Tests
@@ -11,6 +9,5 @@ pub mod Method
 pub mod Question
 pub mod Replay
 pub mod Answer
-pub mod Refusal
 pub mod Demands
 pub mod Sheets

@@ -6,7 +6,7 @@ use mathlib.Core.List.{List, [], _∷_, _++_}
 use lib.Dec.{eqb}
 use lib.ListN.{length}
 use Rattle.blocks.specs.State.{State, support}
-use Rattle.blocks.specs.Search.{lowest}
+use Rattle.lists.specs.Search.{lowest}
 use Rattle.blocks.specs.Tests.{load, clearᵇ, inPositionᵇ, waitingᵇ}
 
 -- document 01's d: "Walk down b's goal pile, b left out, to the first slab in position, or the ground; call it c.

@@ -2,11 +2,12 @@
 use Prim.Native.Nat.{ℕ, zero, suc, _*_}
 use mathlib.Core.Bool.{cond}
 use mathlib.Core.List.{List, [], _∷_, _++_}
+use mathlib.Core.Option.{Option, none, some}
 use lib.Dec.{eqb}
 use lib.ListN.{length}
 use Rattle.blocks.specs.State.{State, support, put}
 use Rattle.blocks.specs.Move.{_⟶_, Plan, after}
-use Rattle.blocks.specs.Search.{lowest}
+use Rattle.lists.specs.Search.{lowest}
 use Rattle.blocks.specs.Tests.{readyᵇ, perchedᵇ, misplacedCount}
 use Rattle.blocks.specs.Loop.{loop, lowestOf, onward, blockedPairs}
 
@@ -87,18 +88,43 @@ outcome Us s g = andThen s (iterate (clearing g) (fuel s) s) (λ t. iterate (bui
 outcome Gn1 s g = iterate (solving lowestPerched g) (fuel s) s
 outcome Gn2 s g = iterate (solving lowestOnLoop g) (fuel s) s
 
--- The state at the end of an outcome.
+-- The method of a number, and the number of a method.
+abbrev pub methodOf : ℕ → Option Method
+methodOf zero = none
+methodOf (suc zero) = some Us
+methodOf (suc (suc zero)) = some Gn1
+methodOf (suc (suc (suc zero))) = some Gn2
+methodOf (suc (suc (suc (suc m)))) = none
+
+abbrev pub numberOf : Method → ℕ
+numberOf Us = 1
+numberOf Gn1 = 2
+numberOf Gn2 = 3
+
+-- The outcome of the method of number m; without a method no plan is asked for.
+abbrev pub outcomeBy : Option Method → State → State → Outcome
+outcomeBy none s g = plan []
+outcomeBy (some m) s g = outcome m s g
+
+unfoldable pub planOutcome : ℕ → State → State → Outcome
+planOutcome m s g = outcomeBy (methodOf m) s g
+
+-- The moves of an outcome, and the state at its end.
+abbrev pub planOf : Outcome → Plan
+planOf (plan p) = p
+planOf nothingToPutDown = []
+
 abbrev pub endOf : State → Outcome → State
 endOf s (plan p) = after s p
 endOf s nothingToPutDown = s
 
 -- The deadlock test "makes constructive lifts, as in method 2, on a copy of the yard until none is left."
-unfoldable pub settled : State → State → State
-settled s g = endOf s (iterate (building g) (fuel s) s)
+unfoldable pub built : State → State → State
+built s g = endOf s (iterate (building g) (fuel s) s)
 
 -- "No misplaced slab left: the answer is none, count 0. Otherwise the count is the length of the loop, and the loop is written from its lowest number onward".
 unfoldable pub deadlockLoop : State → State → List ℕ
-deadlockLoop s g = let t = settled s g in cond (eqb (misplacedCount t g) 0) [] (onward t (loop t g))
+deadlockLoop s g = let t = built s g in cond (eqb (misplacedCount t g) 0) [] (onward t (loop t g))
 
 unfoldable pub deadlockPairs : State → State → List ℕ
-deadlockPairs s g = blockedPairs (settled s g) g (deadlockLoop s g)
+deadlockPairs s g = blockedPairs (built s g) g (deadlockLoop s g)

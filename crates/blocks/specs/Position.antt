@@ -4,7 +4,7 @@ use Prim.Native.Nat.{ℕ, _≤_}
 use mathlib.Core.Path.{_≡_}
 use mathlib.Core.Logic.{_≢_}
 use lib.ListN.{length}
-use Rattle.blocks.specs.State.{State, support, down, Grounded}
+use Rattle.blocks.specs.State.{State, most, support, down, Grounded}
 
 -- A list that is a state of blocks: the plain properties behind questions 4 to 6 (and 7 to 9 for the goal).
 pub record Proper (s : State) : Type 0 where
@@ -23,7 +23,7 @@ pub record Problem (s g : State) : Type 0 where
 
 -- document 01: "In demand 3 a sheet is accepted when questions 2 to 9 below all get a yes."
 pub record Accepted (s g : State) : Type 0 where
-  pub small : length s ≤ 4000
+  pub small : length s ≤ most
   pub problem : Problem s g
 
 -- document 01: "A slab is in position when it and every slab beneath it, down to the ground, rest now on what they rest on in the goal."

@@ -1,85 +1,186 @@
--- The questions put to a problem, in order (document 01, "Questions put to a sheet, in order"), as functions and as plain properties. Assumes nothing.
-use Prim.Native.Nat.{ℕ, pred, _≤_, _<_}
+-- The questions put to a sheet, in order (document 01, "Questions put to a sheet, in order"): a question is a row, and what an operation asks is a list of rows.
+-- Assumes nothing.
+use Prim.Native.Nat.{ℕ, pred, _*_, _%_, _≤_, _<_}
 use mathlib.Core.Path.{_≡_}
-use mathlib.Core.Logic.{_≢_}
-use mathlib.Core.Bool.{Bool, true, false, not, _&&_}
+use mathlib.Core.Logic.{_≢_, _⊎_}
+use mathlib.Core.Bool.{Bool, true, false, cond, not, _&&_}
 use mathlib.Core.List.{List, [], _∷_, _++_}
+use mathlib.Core.Option.{Option, none, some}
 use lib.Dec.{leb, ltb, eqb}
 use lib.ListN.{length}
-use Rattle.blocks.specs.State.{State, support, Grounded}
-use Rattle.blocks.specs.Search.{lowest, Lowest}
-use Rattle.blocks.specs.Position.{Proper}
+use Rattle.lists.specs.Search.{lowest, Lowest}
+use Rattle.blocks.specs.State.{State, most, support, Grounded}
+use Rattle.blocks.specs.Move.{Plan}
 use Rattle.blocks.specs.Tests.{groundedᵇ}
+use Rattle.blocks.specs.Method.{Outcome, plan, nothingToPutDown, Method, methodOf, planOutcome}
 
--- A question: its number, whether the answer is yes, and the place that a "no" names (0 where none is named).
-pub data Question : Type 0 where
-  asks : ℕ → Bool → ℕ → Question
+-- ---- rows
 
--- What a list of questions comes to: all yes, or the first "no" with its number and place.
+-- A question: its number, what a "yes" says, what a "no" says of its place, the test that decides it, and the place that a "no" names.
+pub record Question : Type 1 where
+  pub number : ℕ
+  pub property : Type 0
+  pub fault : ℕ → Type 0
+  pub test : Bool
+  pub place : ℕ
+
+-- A question without a place: "The place is 0 where none is named."
+abbrev pub asks : ℕ → Type 0 → Bool → Question
+asks k P t = record { number = k; property = P; fault = λ p. (p ≡ 0) × (¬ P); test = t; place = 0 }
+
+-- No block from 1 to n is of the kind P.
+abbrev pub None : (ℕ → Type 0) → ℕ → Type 0
+None P n = (b : ℕ) → 1 ≤ b → b ≤ n → ¬ P b
+
+-- A question that asks for no block of a bad kind. Its place p is the lowest of that kind, 0 where there is none.
+abbrev pub asksNone : ℕ → (ℕ → Type 0) → ℕ → ℕ → Question
+asksNone k Bad n p = record { number = k; property = None Bad n; fault = Lowest Bad n; test = eqb p 0; place = p }
+
+-- ---- lists of rows, in the order asked
+
+-- What they come to: all yes, or the first "no" with its number and place.
 pub data Asked : Type 0 where
   allYes : Asked
   no′ : ℕ → ℕ → Asked
 
--- document 01: "A "no" ends with that number. [..] A number is given only on its own "no", after a yes to all before it".
+-- document 01: "A "no" ends with that number."
 abbrev pub firstNo : List Question → Asked
 firstNo [] = allYes
-firstNo (asks k true p ∷ qs) = firstNo qs
-firstNo (asks k false p ∷ qs) = no′ k p
+firstNo (q ∷ qs) = cond (q .test) (firstNo qs) (no′ (q .number) (q .place))
 
--- A question whose place is the lowest bad block: it is answered yes where there is none.
-abbrev pub asksNone : ℕ → ℕ → Question
-asksNone k place = asks k (eqb place 0) place
+-- The same as sentences: all are answered yes;
+abbrev pub AllYes : List Question → Type 0
+AllYes [] = Unit {0}
+AllYes (q ∷ qs) = q .property × AllYes qs
 
--- Question 4. "Is every now entry at most n? Place: the lowest slab with a bad one."
-unfoldable pub badEntry : State → ℕ
-badEntry s = lowest (λ b. ltb (length s) (support s b)) (length s)
+-- and the first "no" has number k and place p: "A number is given only on its own "no", after a yes to all before it".
+abbrev pub FirstNo : List Question → ℕ → ℕ → Type 0
+FirstNo [] k p = ⊥
+FirstNo (q ∷ qs) k p = ((k ≡ q .number) × q .fault p) ⊎ (q .property × FirstNo qs k p)
 
--- Question 5. "Does each slab carry at most one slab now? Place: the lowest slab that rests where a lower-numbered slab rests, the ground excepted."
-unfoldable pub sharesᵇ : State → ℕ → Bool
-sharesᵇ s b = not (eqb (support s b) 0) && not (eqb (lowest (λ c. eqb (support s c) (support s b)) (pred b)) 0)
+-- Their numbers.
+abbrev pub numbers : List Question → List ℕ
+numbers [] = []
+numbers (q ∷ qs) = q .number ∷ numbers qs
 
-unfoldable pub badSupport : State → ℕ
-badSupport s = lowest (sharesᵇ s) (length s)
+-- ---- questions 1 to 3
 
--- Question 6. "Does every slab come down to the ground now? Place: the lowest that does not."
-unfoldable pub ungrounded : State → ℕ
-ungrounded s = lowest (λ b. not (groundedᵇ s b)) (length s)
+pub record IsMethod (m : ℕ) : Type 0 where
+  pub low : 1 ≤ m
+  pub high : m ≤ 3
 
--- Three questions of one state, with their numbers: 4, 5, 6 for now, and "7, 8, 9. The same three for the goal."
-unfoldable pub stateQuestions : ℕ → ℕ → ℕ → State → List Question
-stateQuestions k₁ k₂ k₃ s = asksNone k₁ (badEntry s) ∷ asksNone k₂ (badSupport s) ∷ asksNone k₃ (ungrounded s) ∷ []
+abbrev pub isMethod : Option Method → Bool
+isMethod none = false
+isMethod (some m) = true
 
--- Questions 2 to 9.
-unfoldable pub problemQuestions : State → State → List Question
-problemQuestions s g =
-    asks 2 (leb (length s) 4000) 0 ∷ asks 3 (eqb (length g) (length s)) 0 ∷ (stateQuestions 4 5 6 s ++ stateQuestions 7 8 9 g)
+-- 1. "Planning only: is the method 1, 2 or 3?"
+unfoldable pub asksMethod : ℕ → Question
+asksMethod m = asks 1 (IsMethod m) (isMethod (methodOf m))
 
--- The same questions as plain properties of one state: what a "no" to each of the three means at its place.
-abbrev pub BadEntry : State → ℕ → Type 0
-BadEntry s b = length s < support s b
+-- 2. "Has the now list at most 4,000 entries?" n is their number.
+unfoldable pub asksSize : ℕ → Question
+asksSize n = asks 2 (n ≤ most) (leb n most)
 
-pub record Shares (s : State) (b : ℕ) : Type 0 where
+-- 3. "Has the goal list as many?"
+unfoldable pub asksSame : State → State → Question
+asksSame s g = asks 3 (length g ≡ length s) (eqb (length g) (length s))
+
+-- ---- questions 4 to 6 of the initial state; "7, 8, 9. The same three for the goal."
+
+-- b's entry is above n.
+abbrev pub Outside : State → ℕ → Type 0
+Outside s b = length s < support s b
+
+unfoldable pub outsideᵇ : State → ℕ → Bool
+outsideᵇ s b = ltb (length s) (support s b)
+
+unfoldable pub firstOutside : State → ℕ
+firstOutside s = lowest (outsideᵇ s) (length s)
+
+-- 4. "Is every now entry at most n? Place: the lowest slab with a bad one."
+unfoldable pub asksOutside : ℕ → State → Question
+asksOutside k s = asksNone k (Outside s) (length s) (firstOutside s)
+
+-- b "rests where a lower-numbered slab rests, the ground excepted".
+pub record Shared (s : State) (b : ℕ) : Type 0 where
   pub off : support s b ≢ 0
   pub other : ℕ
   pub lower : other < b
-  pub shared : support s other ≡ support s b
+  pub same : support s other ≡ support s b
 
-abbrev pub Ungrounded : State → ℕ → Type 0
-Ungrounded s b = ¬ Grounded s b
+unfoldable pub sharedᵇ : State → ℕ → Bool
+sharedᵇ s b = not (eqb (support s b) 0) && not (eqb (lowest (λ c. eqb (support s c) (support s b)) (pred b)) 0)
 
--- No block is of the kind P.
-abbrev pub None : (ℕ → Type 0) → ℕ → Type 0
-None P n = (b : ℕ) → 1 ≤ b → b ≤ n → ¬ P b
+unfoldable pub firstShared : State → ℕ
+firstShared s = lowest (sharedᵇ s) (length s)
 
--- The first "no" to the three questions of one state: number among three, and place.
-pub data BadState (k₁ k₂ k₃ : ℕ) (s : State) : ℕ → ℕ → Type 0 where
-  entry : {p : ℕ} → Lowest (BadEntry s) (length s) p → BadState k₁ k₂ k₃ s k₁ p
-  shares : {p : ℕ} → None (BadEntry s) (length s) → Lowest (Shares s) (length s) p → BadState k₁ k₂ k₃ s k₂ p
-  floats : {p : ℕ} → None (BadEntry s) (length s) → None (Shares s) (length s) → Lowest (Ungrounded s) (length s) p → BadState k₁ k₂ k₃ s k₃ p
+-- 5. "Does each slab carry at most one slab now? Place: the lowest slab that rests where a lower-numbered slab rests, the ground excepted."
+unfoldable pub asksShared : ℕ → State → Question
+asksShared k s = asksNone k (Shared s) (length s) (firstShared s)
 
--- The first "no" to questions 2 to 9: `Refused s g k p` says that it is number k with place p.
-pub data Refused (s g : State) : ℕ → ℕ → Type 0 where
-  long : 4000 < length s → Refused s g 2 0
-  uneven : length s ≤ 4000 → length g ≢ length s → Refused s g 3 0
-  initial : {k p : ℕ} → length s ≤ 4000 → length g ≡ length s → BadState 4 5 6 s k p → Refused s g k p
-  goal : {k p : ℕ} → length s ≤ 4000 → length g ≡ length s → Proper s → BadState 7 8 9 g k p → Refused s g k p
+-- b does not come down to the table.
+abbrev pub Floating : State → ℕ → Type 0
+Floating s b = ¬ Grounded s b
+
+unfoldable pub floatingᵇ : State → ℕ → Bool
+floatingᵇ s b = not (groundedᵇ s b)
+
+unfoldable pub firstFloating : State → ℕ
+firstFloating s = lowest (floatingᵇ s) (length s)
+
+-- 6. "Does every slab come down to the ground now? Place: the lowest that does not." Asked after a yes to 4, without which the test is not right.
+unfoldable pub asksFloating : ℕ → State → Question
+asksFloating k s = asksNone k (Floating s) (length s) (firstFloating s)
+
+-- ---- questions 10, 11 and 13; 12 is the program's
+
+-- 10. "Planning, deadlock test: is the lent space large enough?"
+unfoldable pub asksRoom : ℕ → List ℕ → Question
+asksRoom needed space = asks 10 (needed ≤ length space) (leb needed (length space))
+
+-- 11. "Replay: has the lift list an even number of entries?"
+unfoldable pub asksEven : List ℕ → Question
+asksEven lifts = asks 11 (length lifts % 2 ≡ 0) (eqb (length lifts % 2) 0)
+
+abbrev pub isPlan : Outcome → Bool
+isPlan (plan p) = true
+isPlan nothingToPutDown = false
+
+-- 13. "Planning: was there a slab to put down when no constructive lift existed?" Always, by `never-13` of Demands.
+unfoldable pub asksPlan : Outcome → Question
+asksPlan o = asks 13 ((p : Plan) × (o ≡ plan p)) (isPlan o)
+
+-- ---- what is asked of a state and of a problem, and by each operation
+
+unfoldable pub stateQuestions : ℕ → ℕ → ℕ → State → List Question
+stateQuestions k₁ k₂ k₃ s = asksOutside k₁ s ∷ asksShared k₂ s ∷ asksFloating k₃ s ∷ []
+
+unfoldable pub problemQuestions : State → State → List Question
+problemQuestions s g = asksSize (length s) ∷ asksSame s g ∷ (stateQuestions 4 5 6 s ++ stateQuestions 7 8 9 g)
+
+-- "Planning needs 4 × n numbers of lent space, the deadlock test 2 × n."
+unfoldable pub planQuestions : ℕ → State → State → List ℕ → List Question
+planQuestions m s g space = asksMethod m ∷ (problemQuestions s g ++ (asksRoom (4 * length s) space ∷ asksPlan (planOutcome m s g) ∷ []))
+
+unfoldable pub deadlockQuestions : State → State → List ℕ → List Question
+deadlockQuestions s g space = problemQuestions s g ++ (asksRoom (2 * length s) space ∷ [])
+
+unfoldable pub replayQuestions : State → State → List ℕ → List Question
+replayQuestions s g lifts = problemQuestions s g ++ (asksEven lifts ∷ [])
+
+-- ---- the refusals: the first "no" has number k and place p
+
+abbrev pub BadState : ℕ → ℕ → ℕ → State → ℕ → ℕ → Type 0
+BadState k₁ k₂ k₃ s k p = FirstNo (stateQuestions k₁ k₂ k₃ s) k p
+
+abbrev pub Refused : State → State → ℕ → ℕ → Type 0
+Refused s g k p = FirstNo (problemQuestions s g) k p
+
+abbrev pub PlanRefused : ℕ → State → State → List ℕ → ℕ → ℕ → Type 0
+PlanRefused m s g space k p = FirstNo (planQuestions m s g space) k p
+
+abbrev pub DeadlockRefused : State → State → List ℕ → ℕ → ℕ → Type 0
+DeadlockRefused s g space k p = FirstNo (deadlockQuestions s g space) k p
+
+abbrev pub ReplayRefused : State → State → List ℕ → ℕ → ℕ → Type 0
+ReplayRefused s g lifts k p = FirstNo (replayQuestions s g lifts) k p

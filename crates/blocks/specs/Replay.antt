@@ -1,20 +1,30 @@
--- Replay as plain sentences (document 01, "What is lent and written"): which verdict and place a plan has. `Answer` computes them. Assumes nothing.
+-- Replay (document 01, "What is lent and written"): the questions of one move, and which verdict and place a plan has. `Answer` computes them. Assumes nothing.
 use Prim.Native.Nat.{ℕ, suc, _≤_}
 use mathlib.Core.Path.{_≡_}
-use mathlib.Core.Logic.{_≢_, _⊎_}
-use mathlib.Core.List.{_∷_, _++_}
+use mathlib.Core.Logic.{_≢_}
+use mathlib.Core.Bool.{not, _&&_}
+use mathlib.Core.List.{List, [], _∷_, _++_}
+use lib.Dec.{leb, eqb}
 use lib.ListN.{length}
+use Rattle.lists.specs.Search.{Lowest}
 use Rattle.blocks.specs.State.{State, Block, support, Clear}
-use Rattle.blocks.specs.Search.{Lowest}
 use Rattle.blocks.specs.Move.{_⟶_, Plan, after, LegalPlan, Solves}
+use Rattle.blocks.specs.Tests.{clearᵇ}
+use Rattle.blocks.specs.Question.{Question, asks, FirstNo}
 
--- A bad move by its verdict: "1, the slab is not in 1 to n or the destination is above n; 2, the slab is not clear; 3, it already rests there;
--- 4, the destination is the slab itself or a slab that is not clear. The tests run in that order."
-pub data BadMove (s : State) (a x : ℕ) : ℕ → Type 0 where
-  outside : ¬ (Block s a × (x ≤ length s)) → BadMove s a x 1
-  covered : Block s a → x ≤ length s → ¬ Clear s a → BadMove s a x 2
-  already : Block s a → x ≤ length s → Clear s a → x ≡ support s a → BadMove s a x 3
-  taken : Block s a → x ≤ length s → Clear s a → x ≢ support s a → (x ≡ a) ⊎ (¬ Clear s x) → BadMove s a x 4
+-- The questions of one move, whose numbers are the verdicts: "1, the slab is not in 1 to n or the destination is above n; 2, the slab is not clear;
+-- 3, it already rests there; 4, the destination is the slab itself or a slab that is not clear. The tests run in that order."
+unfoldable pub moveQuestions : State → ℕ → ℕ → List Question
+moveQuestions s a x =
+    asks 1 (Block s a × (x ≤ length s)) (leb 1 a && (leb a (length s) && leb x (length s)))
+    ∷ asks 2 (Clear s a) (clearᵇ s a)
+    ∷ asks 3 (x ≢ support s a) (not (eqb x (support s a)))
+    ∷ asks 4 ((x ≢ a) × Clear s x) (not (eqb x a) && clearᵇ s x)
+    ∷ []
+
+-- A bad move, by its verdict.
+abbrev pub BadMove : State → ℕ → ℕ → ℕ → Type 0
+BadMove s a x v = FirstNo (moveQuestions s a x) v 0
 
 -- The verdict and the place of a plan: "0: arrives, place 0. At the first bad lift, counted from 1" its verdict; "5: all lifts are legal and the end differs
 -- from the goal; the place is the lowest slab whose support differs."

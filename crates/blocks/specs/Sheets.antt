@@ -33,7 +33,10 @@ Holds (gives s g m l) =
     × ((planAnswer m s g (lent (4 * length s))) .number ≡ 0)
 Holds (begins s g m l) = take (length l) (planSpace m s g (lent (4 * length s))) ≡ l
 Holds (takes s g m k) = (planAnswer m s g (lent (4 * length s))) .count ≡ k
-Holds (shows s g l) = (deadlockSpace s g (lent (2 * length s)) ≡ onTop l (2 * length s)) × (2 * (deadlockAnswer s g (lent (2 * length s))) .count ≡ length l)
+Holds (shows s g l) =
+    (deadlockSpace s g (lent (2 * length s)) ≡ onTop l (2 * length s))
+    × (2 * (deadlockAnswer s g (lent (2 * length s))) .count ≡ length l)
+    × ((deadlockAnswer s g (lent (2 * length s))) .number ≡ 0)
 Holds (changes s g c) = (planAnswer 1 s g (lent (4 * length s))) .changed ≡ c
 Holds (misplaces s g c) = misplacedCount s g ≡ c
 Holds (refuses s k p) = checkAnswer s (replicate (length s) 0) ≡ record { number = k; place = p }

@@ -11,15 +11,16 @@ use Rattle.blocks.specs.Move.{Constructive}
 use Rattle.blocks.specs.Deadlock.{next}
 use Rattle.blocks.specs.Loop.{successor}
 
--- "misplaced clear slab".
+-- document 01: "misplaced clear slab". Document 001's Δ sequence starts from one (section 3.2: "b be misplaced and clear").
 abbrev pub Waiting : State → State → ℕ → Type 0
 Waiting s g b = Misplaced s g b × Clear s b
 
--- "misplaced clear slab off the ground".
+-- document 01: "misplaced clear slab off the ground". Document 001, section 3.4: off the table and READY or STUCK, that is "misplaced, clear and not on the table,
+-- but unable to move constructively".
 abbrev pub Perched : State → State → ℕ → Type 0
 Perched s g b = Waiting s g b × (support s b ≢ 0)
 
--- A block that has a constructive move.
+-- A block that has a constructive move. Document 001, section 3.4, READY: "it is misplaced but clear and its target is in position and clear".
 abbrev pub Ready : State → State → ℕ → Type 0
 Ready s g b = Constructive s g b (support g b)
 

@@ -11,7 +11,11 @@ use lib.ListN.{length, getD, set}
 abbrev pub State : Type 0
 State = List ℕ
 
--- document 01: "Slabs have numbers 1 to n". The number 0 is the table.
+-- document 01: "Slabs have numbers 1 to n, n at most 4,000."
+abbrev pub most : ℕ
+most = 4000
+
+-- A block's number; the number 0 is the table.
 pub record Block (s : State) (b : ℕ) : Type 0 where
   pub low : 1 ≤ b
   pub high : b ≤ length s

@@ -1,12 +1,11 @@
 -- The notions that the methods ask for, as tests that compute. Each agrees with its notion on proper states (`Theorems`, in Demands).
--- Each stands here once: in position, clear, has a constructive move (`readyᵇ`), must be put down first (`perchedᵇ`: a misplaced clear block off the table).
 -- Assumes nothing.
 use Prim.Native.Nat.{ℕ, zero, suc, _+_}
 use mathlib.Core.Bool.{Bool, not, _&&_, _||_}
 use lib.Dec.{eqb}
 use lib.ListN.{length}
 use Rattle.blocks.specs.State.{State, support, down}
-use Rattle.blocks.specs.Search.{lowest, count}
+use Rattle.lists.specs.Search.{lowest, count}
 
 -- The lowest block that rests on b; 0 where none does. On a proper state no other rests there.
 unfoldable pub load : State → ℕ → ℕ
@@ -32,15 +31,13 @@ inPositionᵇ s g b = agreesᵇ s g (length s) b
 unfoldable pub misplacedᵇ : State → State → ℕ → Bool
 misplacedᵇ s g b = not (inPositionᵇ s g b)
 
--- A misplaced clear block.
+-- Waiting, Ready and Perched, said in Stall.
 unfoldable pub waitingᵇ : State → State → ℕ → Bool
 waitingᵇ s g b = misplacedᵇ s g b && clearᵇ s b
 
--- b has a constructive move.
 unfoldable pub readyᵇ : State → State → ℕ → Bool
 readyᵇ s g b = waitingᵇ s g b && (clearᵇ s (support g b) && inPositionᵇ s g (support g b))
 
--- b is one of those that may have to be put down first: a misplaced clear block off the table.
 unfoldable pub perchedᵇ : State → State → ℕ → Bool
 perchedᵇ s g b = waitingᵇ s g b && not (eqb (support s b) 0)
 

@@ -1,41 +1,76 @@
 -- The choice of the next move from the sets: one law for each way out. Assumes nothing.
 use Prim.Native.Nat.{ℕ, zero, suc, _+_, _-_, _≤_, _<_}
-use mathlib.Core.Path.{_≡_, refl, sym, _∙_, subst}
+use mathlib.Core.Path.{_≡_, refl, sym, ap, _∙_, subst}
 use mathlib.Core.Logic.{_≢_}
-use mathlib.Core.Bool.{Bool, true, false, cond}
+use mathlib.Core.Bool.{Bool, true, false, not, cond, true≢false}
 use mathlib.Core.List.{List}
 use native.Mathlib.Omega.{arith}
-use lib.Dec.{ltb}
+use borrow.Author.Tests.{not-true, not-false}
 use lib.ListN.{length, getD}
-use Rattle.blocks.specs.State.{State, support}
-use Rattle.blocks.specs.Search.{lowest}
+use Rattle.rows.specs.Rows.{Yard, seenOf, readyOf, looseOf, Within}
+use Rattle.rows.proofs.RowLaws.{within-none}
+use Rattle.lists.specs.Search.{lowest}
+use Rattle.lists.proofs.ReflectLaws.{Reflects, to-false, from-true, from-false}
+use Rattle.lists.proofs.SearchLaws.{lowest-ext, lowest-beyond, lowest-passes, lowest-none}
+use Rattle.blocks.specs.State.{State, most, support}
 use Rattle.blocks.specs.Position.{Problem, InPosition, Misplaced}
 use Rattle.blocks.specs.Stall.{Waiting, NoneReady}
 use Rattle.blocks.specs.Tests.{perchedᵇ, waitingᵇ, misplacedCount}
-use Rattle.blocks.specs.Method.{lowestReady, lowestPerched, lowestOnLoop, solving}
-use Rattle.blocks.proofs.Reflect.{Reflects, to-false, from-true, from-false}
+use Rattle.blocks.specs.Method.{lowestReady, lowestPerched, lowestOnLoop, clearing, building, solving}
 use Rattle.blocks.proofs.StateLaws.{support-at}
-use Rattle.blocks.proofs.SearchLaws.{lowest-ext, lowest-beyond, lowest-passes, lowest-none}
-use Rattle.blocks.proofs.PositionLaws.{misplaced-block, position-table, ready-reflects, perched-reflects, waiting-reflects}
+use Rattle.blocks.proofs.PositionLaws.{misplaced-block, position-table, ready-test, perched-test, waiting-test}
 use Rattle.blocks.proofs.StepLaws.{ready-found, ready-none, perched-found, perched-none}
 use Rattle.blocks.proofs.MethodLaws.{perched-picked, loop-picked}
-use Rattle.numberset.specs.Members.{member, Valid}
-use Rattle.statuses.specs.Kept.{Holds}
-use Rattle.choices.specs.Choices.{Linked, Marks, Pickable, Picks, Walkable, Walked, part, stepOf}
-use Rattle.choices.specs.Visits.{LowestIn}
+use Rattle.numberset.specs.Members.{member, Valid, highest}
+use Rattle.towers.specs.Linked.{Linked}
+use Rattle.statuses.specs.Modes.{stepOf, buildsᵇ, putsDownᵇ, walksᵇ}
+use Rattle.statuses.specs.Kept.{Holds, Kept}
+use Rattle.statuses.specs.declared.Mode.{Mode}
+use Rattle.statuses.specs.declared.Mode.the-variants.{Clearing, Building, Gn1, Gn2}
+use Rattle.statuses.proofs.LooseLaws.{loose-by, perched-held, waiting-held}
+use Rattle.choices.specs.Choices.{Visits, Pickable, Chooses, Picks}
+use Rattle.choices.specs.Walks.{Starts, Walkable, LoopAt, Walked}
+use Rattle.choices.specs.Visits.{part, LowestIn}
+use Rattle.choices.specs.declared.Picked.{Picked}
 use Rattle.choices.specs.declared.Span.{Span}
-use Rattle.statuses.proofs.LooseLaws.{perched-held, waiting-held}
 use Rattle.choices.proofs.ChoiceLaws.{Chosen, counted, none-perched, none-waits, clear-next, build-next, build-stop, solve-build, solve-stop, solve-clear}
 use Rattle.choices.proofs.WalkLaws.{lowest-on-loop}
 
 -- a set that holds a test which only blocks pass: its lowest member is the lowest block that passes
-held-lowest : {l : List ℕ} {test : ℕ → Bool} (n : ℕ) → n ≤ 4000 → Holds l test → ((c : ℕ) → n < c → test c ≡ false) → lowest (member l) 4095 ≡ lowest test n
+held-lowest : {l : List ℕ} {test : ℕ → Bool} (n : ℕ) → n ≤ most → Holds l test → ((c : ℕ) → n < c → test c ≡ false) → lowest (member l) highest ≡ lowest test n
 held-lowest {l} {test} n h w none =
-    lowest-ext (member l) test 4095 (λ c _ k. w .same c (omega arith)) ∙ lowest-beyond test n 4095 (omega arith) none
+    lowest-ext (member l) test highest (λ c _ k. w .same c (omega arith)) ∙ lowest-beyond test n highest (omega arith) none
 
-module _ {kind : ℕ} {s g : State} {l gl st rd lo bt tp gb hi seen marks : List ℕ} {k : ℕ} (w : Pickable kind s g l gl st rd lo bt tp gb hi seen marks k) where
+-- the steps of a run, by what the run does
+step-clears : (m : Mode) → buildsᵇ m ≡ false → stepOf m ≡ clearing
+step-clears Clearing e = refl
+step-clears Building e = absurd (true≢false e)
+step-clears Gn1 e = absurd (true≢false e)
+step-clears Gn2 e = absurd (true≢false e)
+
+step-builds : (m : Mode) → putsDownᵇ m ≡ false → stepOf m ≡ building
+step-builds Clearing e = absurd (true≢false e)
+step-builds Building e = refl
+step-builds Gn1 e = absurd (true≢false e)
+step-builds Gn2 e = absurd (true≢false e)
+
+step-perched : (m : Mode) → buildsᵇ m ≡ true → putsDownᵇ m ≡ true → walksᵇ m ≡ false → stepOf m ≡ solving lowestPerched
+step-perched Clearing e f h = absurd (true≢false (sym e))
+step-perched Building e f h = absurd (true≢false (sym f))
+step-perched Gn1 e f h = refl
+step-perched Gn2 e f h = absurd (true≢false h)
+
+step-loop : (m : Mode) → walksᵇ m ≡ true → stepOf m ≡ solving lowestOnLoop
+step-loop Clearing e = absurd (true≢false (sym e))
+step-loop Building e = absurd (true≢false (sym e))
+step-loop Gn1 e = absurd (true≢false (sym e))
+step-loop Gn2 e = refl
+
+-- ---- what the sets say
+
+module _ {m : Mode} {s g : State} {y z : Yard} (w : Kept m s g y z) where
   problem : Problem s g
-  problem = w .kept .known .problem
+  problem = w .known .problem
 
   -- no number but a block passes a test of misplaced blocks
   beyond : {A : Type 0} {t : Bool} (c : ℕ) → Reflects A t → (A → Misplaced s g c) → length s < c → t ≡ false
@@ -44,177 +79,191 @@ module _ {kind : ℕ} {s g : State} {l gl st rd lo bt tp gb hi seen marks : List
   no-table : {A : Type 0} {t : Bool} → Reflects A t → (A → Misplaced s g 0) → t ≡ false
   no-table r f = to-false r (λ x. f x (position-table s g))
 
-  pub ready-may : Valid rd × (member rd 0 ≡ false)
-  ready-may = (w .kept .sets .ready .valid, w .kept .sets .ready .same 0 (omega arith) ∙ no-table (ready-reflects s g problem 0) (λ c. c .misplaced))
+  pub ready-may : Valid (readyOf z) × (member (readyOf z) 0 ≡ false)
+  ready-may = (w .sets .ready .valid, w .sets .ready .same 0 (omega arith) ∙ no-table (ready-test s g problem 0) (λ c. c .misplaced))
 
-  -- for every kind
-  pub loose-may : Valid lo × (member lo 0 ≡ false)
-  loose-may = (w .kept .sets .loose .valid, w .kept .sets .loose .same 0 (omega arith) ∙ by (ltb kind 3))
-    where
-      by : (t : Bool) → cond t (perchedᵇ s g 0) (waitingᵇ s g 0) ≡ false
-      by true = no-table (perched-reflects s g (problem .initial) 0) (λ c. c .0 .0)
-      by false = no-table (waiting-reflects s g (problem .initial) 0) (λ c. c .0)
+  pub loose-may : Valid (looseOf z) × (member (looseOf z) 0 ≡ false)
+  loose-may = (
+    w .sets .loose .valid,
+    w .sets .loose .same 0 (omega arith) ∙ loose-by m s g 0 (λ t. t ≡ false) (no-table (perched-test s g (problem .initial) 0) (λ c. c .0 .0))
+        (no-table (waiting-test s g (problem .initial) 0) (λ c. c .0)),
+  )
 
-  is-ready : {b : ℕ} → b ≡ lowest (member rd) 4095 → b ≡ lowestReady s g
+  is-ready : {b : ℕ} → b ≡ lowest (member (readyOf z)) highest → b ≡ lowestReady s g
   unfolding lowestReady
-  is-ready e = e ∙ held-lowest (length s) (w .kept .known .small) (w .kept .sets .ready) (λ c h. beyond c (ready-reflects s g problem c) (λ r. r .misplaced) h)
+  is-ready e = e ∙ held-lowest (length s) (w .known .small) (w .sets .ready) (λ c h. beyond c (ready-test s g problem c) (λ r. r .misplaced) h)
 
-  -- below kind 3 the loose blocks are the perched ones
-  is-perched : {b : ℕ} → kind < 3 → b ≡ lowest (member lo) 4095 → b ≡ lowestPerched s g
+  stalled : {b : ℕ} → b ≡ lowest (member (readyOf z)) highest → b ≡ 0 → NoneReady s g
+  stalled e q = ready-none problem (sym (is-ready e) ∙ q)
+
+  -- where the loop is not walked the loose blocks are the perched ones
+  is-perched : {b : ℕ} → walksᵇ m ≡ false → b ≡ lowest (member (looseOf z)) highest → b ≡ lowestPerched s g
   unfolding lowestPerched
   is-perched h e =
-      e ∙ held-lowest (length s) (w .kept .known .small) (perched-held (w .kept .sets) h) (λ c q. beyond c (perched-reflects s g (problem .initial) c) (λ r. r .0 .0) q)
+      e ∙ held-lowest (length s) (w .known .small) (perched-held (w .sets) h) (λ c q. beyond c (perched-test s g (problem .initial) c) (λ r. r .0 .0) q)
 
   -- so where there is none and no block is ready, nothing is misplaced
-  pub perched-clean : {b : ℕ} → kind < 3 → NoneReady s g → b ≡ lowest (member lo) 4095 → b ≡ 0 → misplacedCount s g ≡ 0
-  perched-clean h still e z = none-perched problem still (perched-none problem (sym (is-perched h e) ∙ z))
+  pub perched-clean : {b : ℕ} → walksᵇ m ≡ false → NoneReady s g → b ≡ lowest (member (looseOf z)) highest → b ≡ 0 → misplacedCount s g ≡ 0
+  perched-clean h still e q = none-perched problem still (perched-none problem (sym (is-perched h e) ∙ q))
 
-  -- the marks still serve for one move more
-  still-marked : Marks s seen marks (suc k)
-  still-marked =
-      record { marked = λ b. omega (arith, w .visits .marked b); seen-room = w .visits .seen-room; mark-room = w .visits .mark-room }
-
-  picks : {b x : ℕ} → Chosen (stepOf kind g s) s g b x → Picks kind s g seen marks k (record { block = b; dest = x })
-  picks c = record { step = c .step-is; move = c .move; visits = still-marked; idle = λ _. w .visits }
-
-  -- the part that is the loop lies within the list
-  pub span-within : {seen′ marks′ : List ℕ} {m : ℕ} {r : Span} → Walked s g seen′ marks′ m r → length seen′ ≡ length seen → (r .from < r .to) × (r .to ≤ length seen′)
-  span-within v e = (v .ordered, omega (arith, v .within, w .visits .seen-room))
-
-  -- ---- from kind 3 on: the loose blocks are those that wait, and the towers are kept
-
-  module _ (high : 3 ≤ kind) where
-    is-waiting : {b : ℕ} → b ≡ lowest (member lo) 4095 → b ≡ lowest (waitingᵇ s g) (length s)
-    is-waiting e =
-        e ∙ held-lowest (length s) (w .kept .known .small) (waiting-held (w .kept .sets) high) (λ c q. beyond c (waiting-reflects s g (problem .initial) c) (λ r. r .0) q)
-
-    pub linked : Linked s g l gl bt tp gb hi
-    linked =
-        let t = w .kept .towers high in
-        record {
-          small = w .kept .known .small;
-          problem = problem;
-          loads = w .kept .known .loads;
-          goal-loads = w .kept .goal-loads;
-          bottoms = t .bottoms;
-          tops = t .tops;
-          roots = t .roots;
-          highs = t .highs;
-        }
-
-    module _ {start : ℕ} (e : start ≡ lowest (member lo) 4095) where
-      pub start-waits : start ≢ 0 → Waiting s g start
-      start-waits n =
-          let h = is-waiting e in
-          subst (Waiting s g) (sym h) (from-true (waiting-reflects s g (problem .initial) _) (lowest-passes (waitingᵇ s g) (length s) (λ z. n (h ∙ z))))
-
-      -- there is a start where anything waits,
-      pub start-found : {c : ℕ} → Waiting s g c → start ≢ 0
-      start-found {c} v z =
-          let q = misplaced-block (problem .same) (v .0) in
-          from-false (waiting-reflects s g (problem .initial) c) (lowest-none (waitingᵇ s g) (length s) (sym (is-waiting e) ∙ z) c (q .low) (q .high)) v
-
-      -- so where there is none, nothing is misplaced
-      pub start-none : start ≡ 0 → misplacedCount s g ≡ 0
-      start-none z = none-waits problem (λ c v. start-found v z)
-
-    -- the walk of the loop can begin at the lowest waiting block
-    pub walkable-from : {start : ℕ} → NoneReady s g → start ≡ lowest (member lo) 4095 → start ≢ 0 → Walkable s g l gl bt tp gb hi seen marks start (k + 1)
-    walkable-from still e n =
-        record {
-          linked = linked;
-          stalled = still;
-          waiting = start-waits e n;
-          first = is-waiting e;
-          fresh = λ y. omega (arith, w .visits .marked y);
-          small-mark = omega (arith, w .count);
-          seen-room = w .visits .seen-room;
-          mark-room = w .visits .mark-room;
-        }
-
-  -- ---- the ways out
-
-  pub clear-way : {b : ℕ} → kind ≡ 0 → b ≡ lowest (member lo) 4095 → Picks kind s g seen marks k (record { block = b; dest = 0 })
-  clear-way {b} z e = picks (subst (λ j. Chosen (stepOf j g s) s g b 0) (sym z) (clear-next problem (is-perched (omega (arith, z)) e)))
-
-  ready-block : {b : ℕ} → b ≡ lowest (member rd) 4095 → b ≢ 0 → (1 ≤ b) × (b ≤ length s)
+  ready-block : {b : ℕ} → b ≡ lowest (member (readyOf z)) highest → b ≢ 0 → (1 ≤ b) × (b ≤ length s)
   ready-block {b} e n = by b (is-ready e) n
     where
       by : (c : ℕ) → c ≡ lowestReady s g → c ≢ 0 → (1 ≤ c) × (c ≤ length s)
-      by zero f m = absurd (m refl)
-      by (suc i) f m = let r = ready-found problem i (sym f) in (r .legal .block .low, r .legal .block .high)
+      by zero f o = absurd (o refl)
+      by (suc i) f o = let r = ready-found problem i (sym f) in (r .legal .block .low, r .legal .block .high)
 
-  pub ready-low : {b : ℕ} → b ≡ lowest (member rd) 4095 → b ≢ 0 → 1 ≤ b
-  ready-low e n = ready-block e n .0
+  -- ---- where the loop is walked the loose blocks are those that wait, and the towers are kept
 
-  pub ready-within : {b : ℕ} → b ≡ lowest (member rd) 4095 → b ≢ 0 → b - 1 < length g
-  ready-within e n = let r = ready-block e n in omega (arith, r .0, r .1, problem .same)
+  module _ (deep : walksᵇ m ≡ true) where
+    is-waiting : {b : ℕ} → b ≡ lowest (member (looseOf z)) highest → b ≡ lowest (waitingᵇ s g) (length s)
+    is-waiting e =
+        e ∙ held-lowest (length s) (w .known .small) (waiting-held (w .sets) deep) (λ c q. beyond c (waiting-test s g (problem .initial) c) (λ r. r .0) q)
 
-  pub build-way : {b x : ℕ} → kind ≢ 0 → b ≡ lowest (member rd) 4095 → b ≢ 0 → x ≡ getD g (b - 1) 0 → Picks kind s g seen marks k (record { block = b; dest = x })
-  build-way {b} {x} z e n h = picks (by kind z)
-    where
-      home : x ≡ support g b
-      home = h ∙ sym (support-at g b (ready-block e n .0))
+    pub linked : Linked s g y
+    linked = record { known = w .known; towers = w .towers deep }
 
-      by : (j : ℕ) → j ≢ 0 → Chosen (stepOf j g s) s g b x
-      by zero m = absurd (m refl)
-      by (suc zero) m = build-next problem (is-ready e) n home
-      by (suc (suc zero)) m = solve-build problem lowestPerched (is-ready e) n home
-      by (suc (suc (suc j))) m = solve-build problem lowestOnLoop (is-ready e) n home
+    module _ {start : ℕ} (e : start ≡ lowest (member (looseOf z)) highest) where
+      pub start-waits : start ≢ 0 → Waiting s g start
+      start-waits n =
+          let h = is-waiting e in
+          subst (Waiting s g) (sym h) (from-true (waiting-test s g (problem .initial) _) (lowest-passes (waitingᵇ s g) (length s) (λ q. n (h ∙ q))))
 
-  pub build-end : {b : ℕ} → kind ≡ 1 → b ≡ lowest (member rd) 4095 → b ≡ 0 → Picks kind s g seen marks k (record { block = 0; dest = 0 })
-  build-end z e n = picks (subst (λ j. Chosen (stepOf j g s) s g 0 0) (sym z) (build-stop problem (is-ready e) n))
+      -- where there is no start nothing waits, and so nothing is misplaced
+      pub start-none : start ≡ 0 → misplacedCount s g ≡ 0
+      start-none q = none-waits problem (λ c v.
+          let k = misplaced-block (problem .same) (v .0) in
+          from-false (waiting-test s g (problem .initial) c) (lowest-none (waitingᵇ s g) (length s) (sym (is-waiting e) ∙ q) c (k .low) (k .high)) v)
 
-  stalled : {b : ℕ} → b ≡ lowest (member rd) 4095 → b ≡ 0 → NoneReady s g
-  stalled e z = ready-none problem (sym (is-ready e) ∙ z)
-
-  -- kind 2: below 3, and neither 0 nor 1
-  pub down-way : {b c : ℕ} → kind ≢ 0 → kind ≢ 1 → kind < 3 → b ≡ lowest (member rd) 4095 → b ≡ 0 → c ≡ lowest (member lo) 4095
-      → Picks kind s g seen marks k (record { block = c; dest = 0 })
-  down-way {b} {c} k₀ k₁ h e z f = picks (subst (λ j. Chosen (stepOf j g s) s g c 0) two (by c (is-perched h f)))
-    where
-      two : 2 ≡ kind
-      two = omega (arith, k₀, k₁, h)
-
-      by : (d : ℕ) → d ≡ lowestPerched s g → Chosen (solving lowestPerched g s) s g d 0
-      by zero q = solve-stop problem lowestPerched (none-perched problem (stalled e z) (perched-none problem (sym q)))
-      by (suc i) q = solve-clear problem lowestPerched (perched-picked g) (is-ready e) z (counted problem (perched-found problem i (sym q) .0 .0)) q
-
-  -- kind 3, and any higher number
-  module _ {b c : ℕ} (high : 3 ≤ kind) (e : b ≡ lowest (member rd) 4095) (z : b ≡ 0) (f : c ≡ lowest (member lo) 4095) where
-    loops : stepOf kind g s ≡ solving lowestOnLoop g s
-    loops = by kind high
-      where
-        by : (j : ℕ) → 3 ≤ j → stepOf j g s ≡ solving lowestOnLoop g s
-        by zero h = absurd (omega (arith, h))
-        by (suc zero) h = absurd (omega (arith, h))
-        by (suc (suc zero)) h = absurd (omega (arith, h))
-        by (suc (suc (suc j))) h = refl
-
-    pub loop-end : c ≡ 0 → Picks kind s g seen marks k (record { block = 0; dest = 0 })
-    loop-end y = picks (subst (λ q. Chosen q s g 0 0) (sym loops) (solve-stop problem lowestOnLoop (start-none high f y)))
-
-    module _ (n : c ≢ 0) where
-      pub walkable : Walkable s g l gl bt tp gb hi seen marks c (k + 1)
-      walkable = walkable-from high (stalled e z) f n
-
-      pub loop-way : {seen′ marks′ : List ℕ} {r : Span} {low : ℕ} → Walked s g seen′ marks′ (k + 1) r → LowestIn (part seen′ r) low
-          → length seen′ ≡ length seen → length marks′ ≡ length marks → Picks kind s g seen′ marks′ k (record { block = low; dest = 0 })
-      unfolding lowestOnLoop
-      loop-way {seen′} {marks′} {r} {low} v q es em =
-          let some : misplacedCount s g ≢ 0 = counted problem (start-waits high f n .0) in
-          let same : low ≡ lowestOnLoop s g = lowest-on-loop problem (stalled e z) (start-waits high f n .0) v q in
-          let chosen = solve-clear problem lowestOnLoop (loop-picked g) (is-ready e) z some same in
+      -- the walk of the loop can begin at the lowest waiting block
+      pub starts : {k : ℕ} → NoneReady s g → start ≢ 0 → Visits y k → k < 65535 → Starts s g y start (k + 1)
+      starts still n v h =
           record {
-            step = loops ∙ chosen .step-is;
-            move = chosen .move;
-            visits =
-                record {
-                  marked = λ y. omega (arith, v .marked y);
-                  seen-room = omega (arith, es, w .visits .seen-room);
-                  mark-room = omega (arith, em, w .visits .mark-room);
-                };
-            idle = λ y.
-                let perched = loop-picked g s problem (stalled e z) some in
-                absurd (perched .0 .0 (subst (InPosition s g) (sym y ∙ same) (position-table s g)));
+            linked = linked;
+            stalled = still;
+            waiting = start-waits n;
+            first = is-waiting e;
+            fresh = λ b. omega (arith, v .visited b);
+            small = omega arith;
           }
+
+-- ---- the ways out
+
+-- the number of walks still serves for one move more
+still-visits : {y : Yard} {k : ℕ} → Visits y k → Visits y (suc k)
+still-visits v = record { visited = λ b. omega (arith, v .visited b) }
+
+module _ {m : Mode} {g : State} {y z : Yard} {k : ℕ} (w : Pickable m g y z k) where
+  -- nothing has been walked
+  picks : {b x : ℕ} → ((s : State) → Kept m s g y z → Chosen (stepOf m g s) s g b x) → Picks m g z k (record { block = b; dest = x }) y y
+  picks f =
+      record {
+        chooses = λ s q. let c = f s q in record { step = c .step-is; move = c .move };
+        visits = still-visits (w .visits);
+        idle = λ _. w .visits;
+        within = within-none;
+      }
+
+  pub ready-valid : Valid (readyOf z) × (member (readyOf z) 0 ≡ false)
+  ready-valid = ready-may (w .kept)
+
+  pub loose-valid : Valid (looseOf z) × (member (looseOf z) 0 ≡ false)
+  loose-valid = loose-may (w .kept)
+
+  module _ {t : Bool} (e : t ≡ buildsᵇ m) where
+    pub clear-way : {b : ℕ} → not t ≡ true → b ≡ lowest (member (looseOf z)) highest → Picks m g z k (record { block = b; dest = 0 }) y y
+    clear-way {b} n f =
+        picks (λ s q. subst (λ step. Chosen (step g s) s g b 0) (sym (step-clears m off)) (clear-next (problem q) (is-perched q (flat m off) f)))
+      where
+        off : buildsᵇ m ≡ false
+        off = sym e ∙ not-true t n
+
+        flat : (j : Mode) → buildsᵇ j ≡ false → walksᵇ j ≡ false
+        flat Clearing h = refl
+        flat Building h = absurd (true≢false h)
+        flat Gn1 h = absurd (true≢false h)
+        flat Gn2 h = absurd (true≢false h)
+
+    module _ (n : not t ≡ false) {b : ℕ} (f : b ≡ lowest (member (readyOf z)) highest) where
+      on : buildsᵇ m ≡ true
+      on = sym e ∙ not-false t n
+
+      pub ready-low : b ≢ 0 → 1 ≤ b
+      ready-low o = ready-block (w .kept) f o .0
+
+      pub ready-within : b ≢ 0 → b - 1 < length g
+      ready-within o = let r = ready-block (w .kept) f o in omega (arith, r .0, r .1, w .kept .known .problem .same)
+
+      pub build-way : {x : ℕ} → b ≢ 0 → x ≡ getD g (b - 1) 0 → Picks m g z k (record { block = b; dest = x }) y y
+      build-way {x} o h = picks (λ s q. by s q m on)
+        where
+          home : x ≡ support g b
+          home = h ∙ sym (support-at g b (ready-low o))
+
+          by : (s : State) → Kept m s g y z → (j : Mode) → buildsᵇ j ≡ true → Chosen (stepOf j g s) s g b x
+          by s q Clearing i = absurd (true≢false (sym i))
+          by s q Building i = build-next (problem q) (is-ready q f) o home
+          by s q Gn1 i = solve-build (problem q) lowestPerched (is-ready q f) o home
+          by s q Gn2 i = solve-build (problem q) lowestOnLoop (is-ready q f) o home
+
+      module _ (none : b ≡ 0) {u : Bool} (d : u ≡ putsDownᵇ m) where
+        pub build-end : not u ≡ true → Picks m g z k (record { block = 0; dest = 0 }) y y
+        build-end o = picks (λ s q. subst (λ step. Chosen (step g s) s g 0 0) (sym (step-builds m (sym d ∙ not-true u o))) (build-stop (problem q) (is-ready q f) none))
+
+        module _ (o : not u ≡ false) {low : ℕ} (l : low ≡ lowest (member (looseOf z)) highest) {v : Bool} (walks : v ≡ walksᵇ m) where
+          pub down-way : not v ≡ true → Picks m g z k (record { block = low; dest = 0 }) y y
+          down-way i = picks (λ s q. subst (λ step. Chosen (step g s) s g low 0) (sym (step-perched m on (sym d ∙ not-false u o) flat)) (by s q low (is-perched q flat l)))
+            where
+              flat : walksᵇ m ≡ false
+              flat = sym walks ∙ not-true v i
+
+              by : (s : State) → Kept m s g y z → (c : ℕ) → c ≡ lowestPerched s g → Chosen (solving lowestPerched g s) s g c 0
+              by s q zero r = solve-stop (problem q) lowestPerched (none-perched (problem q) (stalled q f none) (perched-none (problem q) (sym r)))
+              by s q (suc j) r = solve-clear (problem q) lowestPerched (perched-picked g) (is-ready q f) none (counted (problem q) (perched-found (problem q) j (sym r) .0 .0)) r
+
+          module _ (i : not v ≡ false) where
+            deep : walksᵇ m ≡ true
+            deep = sym walks ∙ not-false v i
+
+            pub loop-end : low ≡ 0 → Picks m g z k (record { block = 0; dest = 0 }) y y
+            loop-end r = picks (λ s q. subst (λ step. Chosen (step g s) s g 0 0) (sym (step-loop m deep)) (solve-stop (problem q) lowestOnLoop (start-none q deep l r)))
+
+            module _ (some : low ≢ 0) where
+              pub walkable : Walkable y low (k + 1)
+              walkable =
+                  record {
+                    state = w .state;
+                    goal = g;
+                    starts = starts (w .kept) deep l (stalled (w .kept) f none) some (w .visits) (w .count);
+                  }
+
+              module _ {r : Span} {y′ : Yard} (a : Walked low (k + 1) r y y′) where
+                looped : (s : State) → Kept m s g y z → LoopAt s g (seenOf y′) r
+                looped s q = a .loops s g (starts q deep l (stalled q f none) some (w .visits) (w .count))
+
+                pub span-within : (r .from < r .to) × (r .to ≤ length (seenOf y′))
+                span-within =
+                    let v = looped (w .state) (w .kept) in
+                    (v .ordered, omega (arith, v .within, w .kept .known .small, w .kept .known .sized .rooms 7 (omega arith), a .within .long 7))
+
+                pub loop-way : {c : ℕ} → LowestIn (part (seenOf y′) r) c → Picks m g z k (record { block = c; dest = 0 }) y y′
+                unfolding lowestOnLoop
+                loop-way {c} h =
+                    record {
+                      chooses = λ s q. let d = chosen s q in record { step = ap (λ step. step g s) (step-loop m deep) ∙ d .step-is; move = d .move };
+                      visits = record { visited = λ j. omega (arith, a .visited j) };
+                      idle = λ j.
+                          let q = w .kept in
+                          let perched = loop-picked g (w .state) (problem q) (stalled q f none) (misplaced-some (w .state) q) in
+                          absurd (perched .0 .0 (subst (InPosition (w .state) g) (sym j ∙ same (w .state) q) (position-table (w .state) g)));
+                      within = a .within;
+                    }
+                  where
+                    misplaced-some : (s : State) → Kept m s g y z → misplacedCount s g ≢ 0
+                    misplaced-some s q = counted (problem q) (start-waits q deep l some .0)
+
+                    same : (s : State) → Kept m s g y z → c ≡ lowestOnLoop s g
+                    same s q = lowest-on-loop (problem q) (stalled q f none) (start-waits q deep l some .0) (looped s q) h
+
+                    chosen : (s : State) → Kept m s g y z → Chosen (solving lowestOnLoop g s) s g c 0
+                    chosen s q = solve-clear (problem q) lowestOnLoop (loop-picked g) (is-ready q f) none (misplaced-some s q) (same s q)

@@ -1,9 +1,17 @@
 // The next move of a run, with every tie-break, and the walk of the loop (document 01, "The three methods"; document 001, section 3).
 ghost use mathlib.Core.Path.{_≡_};
-ghost use Prim.Native.Nat.{min, _+_, _≤_, _<_};
+ghost use Prim.Native.Nat.{_≤_, _<_};
 ghost use lib.ListN.{length};
-ghost use Rattle.choices.specs.Choices.{part, Walkable, Walked, Pickable, Picks};
-ghost use Rattle.choices.specs.Visits.{FirstAt, LowestIn};
+ghost use Rattle.choices.specs.Choices.{Pickable, Picks};
+ghost use Rattle.choices.specs.Walks.{Walkable, Walked};
+ghost use Rattle.choices.specs.Visits.{part, FirstAt, LowestIn};
+use rows::SEEN;
+use rows::VISITS;
+use rows::Yard;
+use statuses::LOOSE;
+use statuses::Mode;
+use statuses::READY;
+use statuses::Sets;
 
 // A block and where it goes; block 0 where there is nothing to move.
 pub struct Picked {
@@ -11,46 +19,30 @@ pub struct Picked {
     pub dest: usize,
 }
 
-// The next move of a run: kind 0 puts down the lowest perched block, kind 1 makes the lowest ready block's constructive move,
-// kinds 2 and 3 do so while some block is ready, and else put down the lowest perched block, or the lowest on the loop.
-pub fn pick(
-    kind: usize,
-    cur: &[u16],
-    goal: &[u16],
-    load: &[u16],
-    wanted: &[u16],
-    stands: &[u16],
-    ready: &[u64],
-    loose: &[u64],
-    bottoms: &[u16],
-    tops: &[u16],
-    roots: &[u16],
-    highs: &[u16],
-    seen: &mut [u16],
-    marks: &mut [u16],
-    k: usize,
-) -> Picked
-    requires { ⌜ Pickable kind (now cur) (now goal) (now load) (now wanted) (now stands) (now ready) (now loose) (now bottoms) (now tops) (now roots) (now highs) (now seen) (now marks) k ⌝ }
-    ensures { λ r. ⌜ Picks kind (now (cur .entry)) (now (goal .entry)) (now (seen .exit)) (now (marks .exit)) k r ⌝ }
+// The next move of a run, the k-th from 0: the lowest ready block goes home, and where none is ready a block is put down: the lowest perched one, or the lowest
+// on the loop. Clearing makes no constructive move, and building puts nothing down.
+pub fn pick(mode: Mode, goal: &[u16], yard: &mut Yard, sets: &Sets, k: usize) -> Picked
+    requires { ⌜ Pickable mode (now goal) (now yard) (now sets) k ⌝ }
+    ensures { λ r. ⌜ Picks mode (now (goal .entry)) (now (sets .entry)) k r (now (yard .entry)) (now (yard .exit)) ⌝ }
 {
-    if kind == 0 {
+    if !statuses::builds(mode) {
         return Picked {
-            block: numberset::lowest(loose),
+            block: numberset::lowest(&sets[LOOSE]),
             dest: 0,
         };
     }
-    let b = numberset::lowest(ready);
+    let b = numberset::lowest(&sets[READY]);
     if b != 0 {
         return Picked {
             block: b,
-            dest: problem::wide(goal[b - 1]),
+            dest: lists::wide(goal[b - 1]),
         };
     }
-    if kind == 1 {
+    if !statuses::puts_down(mode) {
         return Picked { block: 0, dest: 0 };
     }
-    let low = numberset::lowest(loose);
-    if kind < 3 {
+    let low = numberset::lowest(&sets[LOOSE]);
+    if !statuses::walks(mode) {
         return Picked {
             block: low,
             dest: 0,
@@ -59,22 +51,9 @@ pub fn pick(
     if low == 0 {
         return Picked { block: 0, dest: 0 };
     }
-    let span = walk(
-        cur,
-        goal,
-        load,
-        wanted,
-        bottoms,
-        tops,
-        roots,
-        highs,
-        seen,
-        marks,
-        low,
-        k + 1,
-    );
+    let span = walk(yard, low, k + 1);
     Picked {
-        block: lowest_in(seen, span),
+        block: lowest_in(&yard[SEEN], span),
         dest: 0,
     }
 }
@@ -85,34 +64,21 @@ pub struct Span {
     pub to: usize,
 }
 
-// Follows successors from the start until one returns; the loop is the part of `seen` from its first visit on. Visits bear the mark m.
-pub fn walk(
-    cur: &[u16],
-    goal: &[u16],
-    load: &[u16],
-    wanted: &[u16],
-    bottoms: &[u16],
-    tops: &[u16],
-    roots: &[u16],
-    highs: &[u16],
-    seen: &mut [u16],
-    marks: &mut [u16],
-    start: usize,
-    m: usize,
-) -> Span
-    requires { ⌜ Walkable (now cur) (now goal) (now load) (now wanted) (now bottoms) (now tops) (now roots) (now highs) (now seen) (now marks) start m ⌝ }
-    ensures { λ r. ⌜ Walked (now (cur .entry)) (now (goal .entry)) (now (seen .exit)) (now (marks .exit)) m r ⌝ }
+// Follows successors from the start until one returns; the loop is the part of the blocks seen from its first visit on. The walk has the number m.
+pub fn walk(yard: &mut Yard, start: usize, m: usize) -> Span
+    requires { ⌜ Walkable (now yard) start m ⌝ }
+    ensures { λ r. ⌜ Walked start m r (now (yard .entry)) (now (yard .exit)) ⌝ }
 {
     let mut b = start;
     let mut k = 0;
-    while problem::wide(marks[b]) != m {
-        marks[b] = m as u16;
-        seen[k] = b as u16;
+    while lists::wide(yard[VISITS][b]) != m {
+        yard[VISITS][b] = m as u16;
+        yard[SEEN][k] = b as u16;
         k += 1;
-        b = towers::find(cur, goal, load, wanted, bottoms, tops, roots, highs, b).next;
+        b = towers::find(yard, b).next;
     }
     Span {
-        from: index_of(seen, b),
+        from: index_of(&yard[SEEN], b),
         to: k,
     }
 }
@@ -123,7 +89,7 @@ fn index_of(seen: &[u16], b: usize) -> usize
 {
     let mut i = 0;
     while i < seen.len() {
-        if problem::wide(seen[i]) == b {
+        if lists::wide(seen[i]) == b {
             return i;
         }
         i += 1;
@@ -138,17 +104,10 @@ pub fn lowest_in(seen: &[u16], span: Span) -> usize
 {
     let to = span.to;
     let mut i = span.from;
-    let mut low = problem::wide(seen[i]);
+    let mut low = lists::wide(seen[i]);
     while i < to {
-        low = least(low, problem::wide(seen[i]));
+        low = lists::least(low, lists::wide(seen[i]));
         i += 1;
     }
     low
-}
-
-// The lower of two numbers.
-fn least(a: usize, b: usize) -> usize
-    ensures { λ r. ⌜ r ≡ min a b ⌝ }
-{
-    if a < b { a } else { b }
 }

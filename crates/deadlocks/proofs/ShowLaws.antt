@@ -5,25 +5,25 @@ use mathlib.Core.Path.{_≡_, refl, sym, ap, ap₂, _∙_}
 use mathlib.Core.List.{List, [], _∷_, _++_}
 use native.Mathlib.Omega.{arith}
 use native.Mathlib.Numerals.{add-one}
-use lib.ListN.{length, getD, take, set}
+use lib.ListN.{length, getD, take, set, length-set}
 use lib.Seq.{sets, length-sets, take-suc, take-all, length-take-le}
+use Rattle.rows.specs.Rows.{Yard}
 use Rattle.blocks.specs.State.{State}
-use Rattle.blocks.specs.Position.{Problem}
+use Rattle.blocks.specs.Position.{Problem, Misplaced}
 use Rattle.blocks.specs.Deadlock.{wrap, next}
 use Rattle.blocks.specs.Stall.{Waiting, IsLoop}
-use Rattle.blocks.specs.Loop.{blocker, loop, onward, blockedPairs}
-use Rattle.blocks.specs.Answer.{overwrite}
-use Rattle.blocks.proofs.Reflect.{to-true, ltb-reflects}
+use Rattle.blocks.specs.Loop.{blocker, successor, loop, onward, blockedPairs}
+use Rattle.lists.specs.Lists.{overwrite}
+use Rattle.lists.proofs.ReflectLaws.{to-true, ltb-reflects}
 use Rattle.blocks.proofs.PositionLaws.{misplaced-block}
 use Rattle.blocks.proofs.StallLaws.{successor-waits}
 use Rattle.blocks.proofs.LoopLaws.{onward-closed, onward-length, onward-first}
 use Rattle.blocks.proofs.DeadlockTestLaws.{pairs-length}
-use Rattle.towers.specs.Towers.{Findable, Found}
+use Rattle.towers.specs.Linked.{Linked, Findable, Found}
 use Rattle.towers.specs.declared.Blocked.{Blocked}
 use Rattle.towers.proofs.BottomLaws.{down-inside}
-use Rattle.choices.proofs.WalkLaws.{findable}
-use Rattle.runs.proofs.RunningLaws.{sets-append, front-written}
-use Rattle.deadlocks.specs.Looks.{Showable}
+use Rattle.lists.proofs.WriteLaws.{sets-append, sets-front}
+use Rattle.deadlocks.specs.Looks.{Shows, Showable}
 
 -- i blocks are written, and b is the next
 pub record Showing (s g : State) (out₀ : List ℕ) (count : ℕ) (out : List ℕ) (b i : ℕ) : Type 0 where
@@ -37,9 +37,9 @@ unfolding blockedPairs
 pairs-snoc s g [] b = refl
 pairs-snoc s g (c ∷ l) b = ap (λ r. c ∷ blocker s g c ∷ r) (pairs-snoc s g l b)
 
-module _ {s g : State} {l gl bt tp gb hi out₀ : List ℕ} {low count : ℕ} (w : Showable s g l gl bt tp gb hi out₀ low count) where
+module _ {s g : State} {y : Yard} {low count : ℕ} (w : Shows s g y low count) (out₀ : List ℕ) (room : 2 * count ≤ length out₀) where
   p : Problem s g
-  p = w .linked .problem
+  p = w .linked .known .problem
 
   blocks : List ℕ
   blocks = onward s (loop s g)
@@ -50,7 +50,7 @@ module _ {s g : State} {l gl bt tp gb hi out₀ : List ℕ} {low count : ℕ} (w
   long : length (onward s (loop s g)) ≡ count
   long = onward-length s (loop s g) ∙ sym (w .size)
 
-  pub begin : Showing s g out₀ count out₀ low 0
+  begin : Showing s g out₀ count out₀ low 0
   unfolding blockedPairs
   begin = record { within = omega arith; here = λ h. w .first ∙ sym (onward-first p (w .closed)); written = refl }
 
@@ -61,30 +61,27 @@ module _ {s g : State} {l gl bt tp gb hi out₀ : List ℕ} {low count : ℕ} (w
     waits : Waiting s g b
     waits = rw (v .here h) (closed .waiting i inside)
 
-    pub may-find : Findable s g l gl bt tp gb hi b
-    may-find = findable (w .linked) (waits .0)
+    pair-fits : 2 * i + 1 < length out
+    pair-fits = omega (arith, h, room, ap length (v .written) ∙ length-sets out₀ 0 (blockedPairs s g (take i (onward s (loop s g)))))
 
-    pub pair-fits : 2 * i + 1 < length out
-    pair-fits = omega (arith, h, w .room, ap length (v .written) ∙ length-sets out₀ 0 (blockedPairs s g (take i (onward s (loop s g)))))
+    block-fits : b < 65536
+    block-fits = omega (arith, w .linked .known .small, misplaced-block (p .same) (waits .0) .high)
 
-    pub block-fits : b < 65536
-    block-fits = omega (arith, w .linked .small, misplaced-block (p .same) (waits .0) .high)
-
-    pub beside-fits : {r : Blocked} → Found s g b r → r .by < 65536
+    beside-fits : {r : Blocked} → Found s g b r → r .by < 65536
     beside-fits {r} f =
         let above = successor-waits p (w .stalled) b waits .2 in
         let block = misplaced-block (p .same) (waits .0) in
         let high : blocker s g b ≤ length g = rw (sym (above .reaches)) (down-inside (p .goal) (suc (above .steps)) b (omega (arith, block .high, p .same))) in
-        omega (arith, w .linked .small, high, f .by, p .same)
+        omega (arith, w .linked .known .small, high, f .by, p .same)
 
-    pub next-shown : {r : Blocked} {out′ : List ℕ} → Found s g b r → out′ ≡ set (set out (2 * i) b) (2 * i + 1) (r .by)
+    next-shown : {r : Blocked} {out′ : List ℕ} → Found s g b r → out′ ≡ set (set out (2 * i) b) (2 * i + 1) (r .by)
         → Showing s g out₀ count out′ (r .next) (i + 1)
     next-shown {r} f o =
         record {
           within = omega (arith, h);
           here = λ k.
               f .next
-              ∙ ap (Rattle.blocks.specs.Loop.successor s g) (v .here h)
+              ∙ ap (successor s g) (v .here h)
               ∙ closed .follows i inside
               ∙ ap (λ t. getD (onward s (loop s g)) (wrap t (suc i)) 0) (to-true (ltb-reflects (suc i) (length (onward s (loop s g)))) (omega (arith, k, long)))
               ∙ ap (λ j. getD (onward s (loop s g)) j 0) (sym (add-one i));
@@ -110,8 +107,55 @@ module _ {s g : State} {l gl bt tp gb hi out₀ : List ℕ} {low count : ℕ} (w
             ∙ pairs-snoc s g (take i (onward s (loop s g))) b
 
   -- all are written
-  pub finish : {out : List ℕ} {b i : ℕ} → Showing s g out₀ count out b i → count ≤ i → out ≡ overwrite (blockedPairs s g (onward s (loop s g))) out₀
+  finish : {out : List ℕ} {b i : ℕ} → Showing s g out₀ count out b i → count ≤ i → out ≡ overwrite (blockedPairs s g (onward s (loop s g))) out₀
   finish {out} {b} {i} v h =
       v .written
       ∙ ap (λ m. sets out₀ 0 (blockedPairs s g m)) (take-all i (onward s (loop s g)) (omega (arith, h, long)))
-      ∙ front-written out₀ (blockedPairs s g (onward s (loop s g))) (omega (arith, pairs-length s g (onward s (loop s g)), long, w .room))
+      ∙ sets-front (blockedPairs s g (onward s (loop s g))) out₀ (omega (arith, pairs-length s g (onward s (loop s g)), long, room))
+
+-- ---- the same of whatever problem the rows are
+
+pub record Writing (y : Yard) (low count : ℕ) (out₀ : List ℕ) (b i : ℕ) (out : List ℕ) : Type 0 where
+  pub some : Showable y out₀ low count
+  pub every : (s g : State) → Shows s g y low count → Showing s g out₀ count out b i
+  pub long : length out ≡ length out₀
+
+pub writing-begin : {y : Yard} {low count : ℕ} {out : List ℕ} → Showable y out low count → Writing y low count out low 0 out
+writing-begin w = record { some = w; every = λ s g h. begin h _ (w .room); long = refl }
+
+module _ {y : Yard} {low count : ℕ} {out₀ : List ℕ} {b i : ℕ} {out : List ℕ} (w : Writing y low count out₀ b i out) where
+  here-is : Showing (w .some .state) (w .some .goal) out₀ count out b i
+  here-is = w .every (w .some .state) (w .some .goal) (w .some .shows)
+
+  pub writing-end : count ≤ i → (s g : State) → Shows s g y low count → out ≡ overwrite (blockedPairs s g (onward s (loop s g))) out₀
+  writing-end h s g v = finish v out₀ (w .some .room) (w .every s g v) h
+
+  module _ (h : i < count) where
+    pub may-find : Findable y b
+    may-find =
+        record {
+          state = w .some .state;
+          goal = w .some .goal;
+          linked = w .some .shows .linked;
+          misplaced = waits (w .some .shows) out₀ (w .some .room) here-is h .0;
+        }
+
+    module _ {r : Blocked} (f : (s g : State) → Linked s g y → Misplaced s g b → Found s g b r) where
+      found : (s g : State) → Shows s g y low count → Found s g b r
+      found s g v = f s g (v .linked) (waits v out₀ (w .some .room) (w .every s g v) h .0)
+
+      pub may-write : (2 * i + 1 < length out) × (b < 65536) × (r .by < 65536)
+      may-write =
+          let v = w .some .shows in (
+            pair-fits v out₀ (w .some .room) here-is h,
+            block-fits v out₀ (w .some .room) here-is h,
+            beside-fits v out₀ (w .some .room) here-is h (found (w .some .state) (w .some .goal) v),
+          )
+
+      pub writing-next : {out′ : List ℕ} → out′ ≡ set (set out (2 * i) b) (2 * i + 1) (r .by) → Writing y low count out₀ (r .next) (i + 1) out′
+      writing-next {out′} o =
+          record {
+            some = w .some;
+            every = λ s g v. next-shown v out₀ (w .some .room) (w .every s g v) h (found s g v) o;
+            long = ap length o ∙ length-set (set out (2 * i) b) (2 * i + 1) (r .by) ∙ length-set out (2 * i) b ∙ w .long;
+          }

@@ -1,12 +1,14 @@
--- What the answers of the deadlock test say, in document 01's numbers, and what the public function promises. Assumes nothing.
+-- What the answers of the deadlock test say, in document 01's numbers, and what the public functions promise. Assumes nothing.
 use Prim.Native.Nat.{ℕ, _*_}
 use mathlib.Core.Path.{_≡_}
+use mathlib.Core.Logic.{_≢_}
 use mathlib.Core.List.{List}
 use lib.ListN.{length, take}
 use Rattle.blocks.specs.State.{State}
-use Rattle.blocks.specs.Question.{Asked, allYes, no′, firstNo}
-use Rattle.blocks.specs.Answer.{DeadlockAnswer, deadlockQuestions, deadlockAnswer, deadlockSpace}
+use Rattle.blocks.specs.Question.{Asked, allYes, no′, firstNo, deadlockQuestions}
+use Rattle.blocks.specs.Answer.{DeadlockAnswer, deadlockAnswer, deadlockSpace}
 use Rattle.blocks.specs.Demands.{NoDeadlock, Shown}
+use Rattle.deadlocks.specs.Looks.{Sought}
 use Rattle.deadlocks.specs.declared.Tested.{Tested}
 use Rattle.deadlocks.specs.declared.Tested.the-variants.{Refused, Free, Deadlocked}
 
@@ -30,3 +32,10 @@ pub record TestsDeadlock (s g : State) (space : List ℕ) (r : Tested) (space′
   pub lent : space′ ≡ deadlockSpace s g space
   pub none : r ≡ Free → NoDeadlock s g
   pub some : (c : ℕ) → r ≡ Deadlocked c → (blocks : List ℕ) × (length blocks ≡ c) × Shown s g blocks (take (2 * c) space′)
+
+-- The same of a problem that has been checked.
+pub record Finds (s g : State) (space : List ℕ) (r : Tested) (space′ : List ℕ) : Type 0 where
+  pub count : ℕ
+  pub sought : Sought s g space count space′
+  pub free : count ≡ 0 → r ≡ Free
+  pub found : count ≢ 0 → r ≡ Deadlocked count

@@ -1,10 +1,23 @@
 // The deadlock test (document 01, "The three methods", its last paragraph; document 000, section 2.2; document 001, section 3.2).
 ghost use mathlib.Core.Path.{_≡_};
+ghost use Rattle.blocks.specs.State.{State};
+ghost use Rattle.blocks.specs.Stall.{NoneReady};
 ghost use Rattle.blocks.specs.Loop.{loop, onward, blockedPairs};
-ghost use Rattle.blocks.specs.Answer.{overwrite};
-ghost use Rattle.deadlocks.specs.Looks.{Showable, Lookable, Looked, Seekable, Testable, Sought};
-ghost use Rattle.deadlocks.specs.Answers.{TestsDeadlock};
+ghost use Rattle.lists.specs.Lists.{overwrite};
+ghost use Rattle.statuses.specs.Kept.{Kept};
+ghost use Rattle.statuses.specs.declared.Mode.the-variants.{Gn2};
+ghost use Rattle.deadlocks.specs.Looks.{Shows, Showable, Lookable, Looked, Seekable, Sought};
+ghost use Rattle.deadlocks.specs.Answers.{TestsDeadlock, Finds};
+use numberset::WORDS;
 use problem::Checked;
+use rows::MOST;
+use rows::ROW;
+use rows::ROWS;
+use rows::SEEN;
+use rows::Yard;
+use statuses::LOOSE;
+use statuses::Mode;
+use statuses::Sets;
 
 // The answer to the deadlock test: the number and place of the first "no", or that nothing is deadlocked at the start, or how many blocks the pairs show.
 pub enum Tested {
@@ -17,18 +30,8 @@ pub enum Tested {
 pub fn deadlock(initial: &[u16], goal: &[u16], out: &mut [u16]) -> Tested
     ensures { λ r. ⌜ TestsDeadlock (now (initial .entry)) (now (goal .entry)) (now (out .entry)) r (now (out .exit)) ⌝ }
 {
-    let mut load = [0u16; 4001];
-    let mut wanted = [0u16; 4001];
-    let mut stands = [0u16; 4001];
-    let mut bottoms = [0u16; 4001];
-    let checked = problem::examine(
-        initial,
-        goal,
-        &mut load,
-        &mut wanted,
-        &mut stands,
-        &mut bottoms,
-    );
+    let mut yard = [[0u16; ROW]; ROWS];
+    let checked = problem::examine(initial, goal, &mut yard);
     if let Checked::Refused { number, place } = checked {
         return Tested::Refused { number, place };
     }
@@ -38,254 +41,67 @@ pub fn deadlock(initial: &[u16], goal: &[u16], out: &mut [u16]) -> Tested
             place: 0,
         };
     }
-    let mut cur = [0u16; 4000];
-    let mut ready = [0u64; 65];
-    let mut loose = [0u64; 65];
-    let mut tops = [0u16; 4001];
-    let mut roots = [0u16; 4001];
-    let mut highs = [0u16; 4001];
-    let mut seen = [0u16; 4000];
-    let mut marks = [0u16; 4001];
-    let mut moves = [0u16; 16000];
-    let count = seek(
-        initial,
-        goal,
-        &mut cur,
-        &mut load,
-        &wanted,
-        &mut stands,
-        &mut ready,
-        &mut loose,
-        &mut bottoms,
-        &mut tops,
-        &mut roots,
-        &mut highs,
-        &mut seen,
-        &mut marks,
-        &mut moves,
-        out,
-    );
+    test(initial, goal, &mut yard, out)
+}
+
+// The test of a problem that has been checked, whose rows are as the check left them, and room for the pairs.
+pub fn test(initial: &[u16], goal: &[u16], yard: &mut Yard, out: &mut [u16]) -> Tested
+    requires { ⌜ Seekable (now initial) (now goal) (now yard) (now out) ⌝ }
+    ensures { λ r. ⌜ Finds (now (initial .entry)) (now (goal .entry)) (now (out .entry)) r (now (out .exit)) ⌝ }
+{
+    let count = seek(initial, goal, yard, out);
     if count == 0 {
         return Tested::Free;
     }
     Tested::Deadlocked { count }
 }
 
-// The test of an accepted problem, over lent lists that are long enough for any problem; answers how many blocks are written.
-fn seek(
-    initial: &[u16],
-    goal: &[u16],
-    cur: &mut [u16],
-    load: &mut [u16],
-    wanted: &[u16],
-    stands: &mut [u16],
-    ready: &mut [u64],
-    loose: &mut [u64],
-    bottoms: &mut [u16],
-    tops: &mut [u16],
-    roots: &mut [u16],
-    highs: &mut [u16],
-    seen: &mut [u16],
-    marks: &mut [u16],
-    moves: &mut [u16],
-    out: &mut [u16],
-) -> usize
-    requires { ⌜ Testable (now initial) (now goal) (now cur) (now load) (now wanted) (now stands) (now ready) (now loose) (now bottoms) (now tops) (now roots) (now highs) (now seen) (now marks) (now moves) (now out) ⌝ }
+// Constructive moves on a copy of the state until none is left, and a look at what is then misplaced; answers how many blocks are written.
+// The moves need no towers; these are filled once, for the look. Nothing ready and nothing perched: nothing is misplaced.
+fn seek(initial: &[u16], goal: &[u16], yard: &mut Yard, out: &mut [u16]) -> usize
+    requires { ⌜ Seekable (now initial) (now goal) (now yard) (now out) ⌝ }
     ensures { λ r. ⌜ Sought (now (initial .entry)) (now (goal .entry)) (now (out .entry)) r (now (out .exit)) ⌝ }
 {
     let n = initial.len();
-    seek_in(
-        initial,
-        goal,
-        &mut cur[..n],
-        load,
-        wanted,
-        stands,
-        ready,
-        loose,
-        bottoms,
-        tops,
-        roots,
-        highs,
-        seen,
-        marks,
-        moves,
-        out,
-    )
-}
-
-// The same, with a list just long enough for the state: constructive moves on a copy of the state until none is left, and a look at what is then misplaced.
-// The moves need no towers; these are filled once, for the look. Nothing ready and nothing perched: nothing is misplaced.
-fn seek_in(
-    initial: &[u16],
-    goal: &[u16],
-    cur: &mut [u16],
-    load: &mut [u16],
-    wanted: &[u16],
-    stands: &mut [u16],
-    ready: &mut [u64],
-    loose: &mut [u64],
-    bottoms: &mut [u16],
-    tops: &mut [u16],
-    roots: &mut [u16],
-    highs: &mut [u16],
-    seen: &mut [u16],
-    marks: &mut [u16],
-    moves: &mut [u16],
-    out: &mut [u16],
-) -> usize
-    requires { ⌜ Seekable (now initial) (now goal) (now cur) (now load) (now wanted) (now stands) (now ready) (now loose) (now bottoms) (now tops) (now roots) (now highs) (now seen) (now marks) (now moves) (now out) ⌝ }
-    ensures { λ r. ⌜ Sought (now (initial .entry)) (now (goal .entry)) (now (out .entry)) r (now (out .exit)) ⌝ }
-{
-    problem::zero(marks);
-    statuses::begin(
-        1,
-        initial,
-        goal,
-        cur,
-        load,
-        wanted,
-        stands,
-        ready,
-        loose,
-        bottoms,
-        tops,
-        roots,
-        highs,
-    );
-    let k = runs::run(
-        1,
-        cur,
-        goal,
-        load,
-        wanted,
-        stands,
-        ready,
-        loose,
-        bottoms,
-        tops,
-        roots,
-        highs,
-        seen,
-        marks,
-        moves,
-        0,
-    );
-    if numberset::lowest(loose) == 0 {
+    let mut room = [0u16; MOST];
+    let cur = &mut room[..n];
+    let mut sets = [[0u64; WORDS]; 2];
+    let mut moves = [0u16; 4 * MOST];
+    statuses::begin(Mode::Building, initial, goal, cur, yard, &mut sets);
+    let k = runs::run(Mode::Building, cur, goal, yard, &mut sets, &mut moves, 0);
+    if numberset::lowest(&sets[LOOSE]) == 0 {
         return 0;
     }
-    statuses::fit(
-        3,
-        cur,
-        goal,
-        load,
-        wanted,
-        stands,
-        ready,
-        loose,
-        bottoms,
-        tops,
-        roots,
-        highs,
-    );
-    look(
-        cur,
-        goal,
-        load,
-        wanted,
-        stands,
-        ready,
-        loose,
-        bottoms,
-        tops,
-        roots,
-        highs,
-        seen,
-        marks,
-        k,
-        out,
-    )
+    statuses::fit(Mode::Gn2, cur, goal, yard, &mut sets);
+    look(yard, &sets, k, out)
 }
 
 // Writes the loop of a state in which no block is ready, from its lowest block onward; answers how many blocks it has, 0 where nothing is misplaced.
-// The test calls it only where something is perched; it does not rely on that. The lists that are not read are only spoken of.
-fn look(
-    cur: &[u16],
-    goal: &[u16],
-    load: &[u16],
-    wanted: &[u16],
-    stands: &[u16],
-    ready: &[u64],
-    loose: &[u64],
-    bottoms: &[u16],
-    tops: &[u16],
-    roots: &[u16],
-    highs: &[u16],
-    seen: &mut [u16],
-    marks: &mut [u16],
-    k: usize,
-    out: &mut [u16],
-) -> usize
-    requires { ⌜ Lookable (now cur) (now goal) (now load) (now wanted) (now stands) (now ready) (now loose) (now bottoms) (now tops) (now roots) (now highs) (now seen) (now marks) k (now out) ⌝ }
-    ensures { λ r. ⌜ Looked (now (cur .entry)) (now (goal .entry)) (now (out .entry)) r (now (out .exit)) ⌝ }
+// The test calls it only where something is perched; it does not rely on that.
+fn look(yard: &mut Yard, sets: &Sets, k: usize, out: &mut [u16]) -> usize
+    requires { ⌜ Lookable (now yard) (now sets) k (now out) ⌝ }
+    ensures { λ r. ⌜ ((s g : State) → Kept Gn2 s g (now (yard .entry)) (now (sets .entry)) → NoneReady s g → Looked s g (now (out .entry)) r (now (out .exit))) ⌝ }
 {
-    let start = numberset::lowest(loose);
+    let start = numberset::lowest(&sets[LOOSE]);
     if start == 0 {
         return 0;
     }
-    let span = choices::walk(
-        cur,
-        goal,
-        load,
-        wanted,
-        bottoms,
-        tops,
-        roots,
-        highs,
-        seen,
-        marks,
-        start,
-        k + 1,
-    );
+    let span = choices::walk(yard, start, k + 1);
     let count = span.to - span.from;
-    let low = choices::lowest_in(seen, span);
-    show(
-        cur,
-        goal,
-        load,
-        wanted,
-        bottoms,
-        tops,
-        roots,
-        highs,
-        out,
-        low,
-        count,
-    );
+    let low = choices::lowest_in(&yard[SEEN], span);
+    show(yard, out, low, count);
     count
 }
 
 // Writes the loop as pairs, from its lowest block on: each block, and the block through which its successor is in its way.
-fn show(
-    cur: &[u16],
-    goal: &[u16],
-    load: &[u16],
-    wanted: &[u16],
-    bottoms: &[u16],
-    tops: &[u16],
-    roots: &[u16],
-    highs: &[u16],
-    out: &mut [u16],
-    low: usize,
-    count: usize,
-)
-    requires { ⌜ Showable (now cur) (now goal) (now load) (now wanted) (now bottoms) (now tops) (now roots) (now highs) (now out) low count ⌝ }
-    ensures { λ r. ⌜ now (out .exit) ≡ overwrite (blockedPairs (now (cur .entry)) (now (goal .entry)) (onward (now (cur .entry)) (loop (now (cur .entry)) (now (goal .entry))))) (now (out .entry)) ⌝ }
+fn show(yard: &Yard, out: &mut [u16], low: usize, count: usize)
+    requires { ⌜ Showable (now yard) (now out) low count ⌝ }
+    ensures { λ r. ⌜ ((s g : State) → Shows s g (now (yard .entry)) low count → now (out .exit) ≡ overwrite (blockedPairs s g (onward s (loop s g))) (now (out .entry))) ⌝ }
 {
     let mut b = low;
     let mut i = 0;
     while i < count {
-        let found = towers::find(cur, goal, load, wanted, bottoms, tops, roots, highs, b);
+        let found = towers::find(yard, b);
         runs::write_pair(out, i, b, found.by);
         b = found.next;
         i += 1;

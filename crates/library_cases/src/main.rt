@@ -98,7 +98,7 @@ fn answer(operation: usize, nums: &[u16], space: &mut [u16], a: usize, b: usize,
     if c - b != 2 {
         return false;
     }
-    let size = problem::wide(nums[b + 1]);
+    let size = lists::wide(nums[b + 1]);
     if space.len() < size {
         return false;
     }
@@ -193,7 +193,7 @@ fn tell_space(space: &[u16], count: usize) {
     let end = least(2 * least(count, 16), space.len());
     let mut i = 0;
     while i < end {
-        tell_more(problem::wide(space[i]));
+        tell_more(lists::wide(space[i]));
         i += 1;
     }
 }

@@ -12,7 +12,7 @@ use lib.Dec.{eqb, lit<}
 use lib.Pow.{pow-lt, shl-exact, shr-shr, shl-shr}
 use lib.Bits.{bitAnd, bitOr, bitXor, differ, and-step, or-step, xor-step, and-shr, or-shr, xor-shr}
 use lib.Count.{under, trailingZeros}
-use Rattle.blocks.proofs.Reflect.{same?}
+use Rattle.lists.proofs.ReflectLaws.{same?}
 use Rattle.numberset.specs.Members.{bit}
 
 abbrev digit : ℕ → ℕ → ℕ

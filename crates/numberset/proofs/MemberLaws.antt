@@ -11,10 +11,10 @@ use lib.Dec.{eqb}
 use lib.ListN.{length, getD, set, length-set, List·getD-eq-default}
 use lib.Seq.{getD-set-same, getD-set-other}
 use lib.Count.{trailingZeros}
-use Rattle.blocks.specs.Search.{lowest}
-use Rattle.blocks.proofs.SearchLaws.{lowest-is, lowest-zero}
-use Rattle.blocks.proofs.Reflect.{same?, decided, eqb-reflects, ltb-reflects, reflects-same}
-use Rattle.numberset.specs.Members.{bit, member, Valid, Empty, Assigned}
+use Rattle.lists.specs.Search.{lowest}
+use Rattle.lists.proofs.SearchLaws.{lowest-is, lowest-zero}
+use Rattle.lists.proofs.ReflectLaws.{same?, decided, eqb-reflects, ltb-reflects, reflects-same}
+use Rattle.numberset.specs.Members.{bit, member, Valid, Empty, Assigned, limit, highest, wordCount}
 use Rattle.numberset.proofs.DigitLaws.{bit-zero, Low, trailing-low}
 
 -- a number whose word is 0 is no member
@@ -27,7 +27,7 @@ absent l x e = ap (λ w. bit w (x % 64)) e ∙ bit-zero (x % 64)
 pub clear-more : (l : List ℕ) (i : ℕ) → i < length l → ((k : ℕ) → k < i → getD l k 0 ≡ 0) → (k : ℕ) → k < i + 1 → getD (set l i 0) k 0 ≡ 0
 clear-more l i h below = below-more _ i (λ k a. getD-set-other l i k 0 0 (λ e. omega arith) ∙ below k a) (getD-set-same l i 0 0 h)
 
-pub cleared : (l : List ℕ) (i : ℕ) → length l ≡ 65 → 65 ≤ i → ((k : ℕ) → k < i → getD l k 0 ≡ 0) → Empty l
+pub cleared : (l : List ℕ) (i : ℕ) → length l ≡ wordCount → wordCount ≤ i → ((k : ℕ) → k < i → getD l k 0 ≡ 0) → Empty l
 cleared l i size h below = record {
   valid = record {
     size = size;
@@ -38,9 +38,9 @@ cleared l i size h below = record {
 }
   where
     every : (k : ℕ) → getD l k 0 ≡ 0
-    every k = go (decided (ltb-reflects k 65))
+    every k = go (decided (ltb-reflects k wordCount))
       where
-        go : (k < 65) ⊎ (¬ (k < 65)) → getD l k 0 ≡ 0
+        go : (k < wordCount) ⊎ (¬ (k < wordCount)) → getD l k 0 ≡ 0
         go (inl a) = below k (omega arith)
         go (inr n) = List·getD-eq-default l 0 (omega arith)
 
@@ -79,7 +79,7 @@ module _ (l : List ℕ) (i word last : ℕ) (v : Valid l) (h : i < 64) where
       sums k a (inr n) = rw (ne-eqb k i n) (v .summary k a ∙ ap (λ w. not (eqb w 0)) (sym (elsewhere k n (omega arith))))
 
 -- the word of x with its bit assigned, and the summary with that word's bit
-pub assigned : (l : List ℕ) (x : ℕ) (on : Bool) (word last : ℕ) → Valid l → x < 4096 → word < 2 ^ 64 → last < 2 ^ 64
+pub assigned : (l : List ℕ) (x : ℕ) (on : Bool) (word last : ℕ) → Valid l → x < limit → word < 2 ^ 64 → last < 2 ^ 64
     → ((j : ℕ) → bit word j ≡ cond (eqb j (x % 64)) on (bit (getD l (x / 64) 0) j))
     → ((j : ℕ) → bit last j ≡ cond (eqb j (x / 64)) (not (eqb word 0)) (bit (getD (set l (x / 64) word) 64 0) j))
     → Assigned l x on (written l (x / 64) word last)
@@ -95,7 +95,7 @@ assigned l x on word last v h fits fits′ put said = record {
     unread : getD (set l (x / 64) word) 64 0 ≡ getD l 64 0
     unread = getD-set-other l (x / 64) 64 word 0 (omega (arith, low))
 
-    go : (y : ℕ) → y < 4096 → (y / 64 ≡ x / 64) ⊎ (¬ (y / 64 ≡ x / 64)) → member (written l (x / 64) word last) y ≡ cond (eqb y x) on (member l y)
+    go : (y : ℕ) → y < limit → (y / 64 ≡ x / 64) ⊎ (¬ (y / 64 ≡ x / 64)) → member (written l (x / 64) word last) y ≡ cond (eqb y x) on (member l y)
     go y a (inl e) =
         let same : eqb (y % 64) (x % 64) ≡ eqb y x =
         reflects-same (λ d. omega arith) (λ d. omega arith) (eqb-reflects (y % 64) (x % 64)) (eqb-reflects y x) in
@@ -112,9 +112,9 @@ word-zero : (l : List ℕ) (i : ℕ) → Valid l → i < 64 → bit (getD l 64 0
 word-zero l i v h e = eqb-true (getD l i 0) 0 (not-false (eqb (getD l i 0) 0) (sym (v .summary i h) ∙ e))
 
 -- where the summary is 0 there is no member
-pub lowest-nothing : (l : List ℕ) → Valid l → getD l 64 0 ≡ 0 → 0 ≡ lowest (member l) 4095
+pub lowest-nothing : (l : List ℕ) → Valid l → getD l 64 0 ≡ 0 → 0 ≡ lowest (member l) highest
 lowest-nothing l v e =
-    sym (lowest-zero (member l) 4095 (λ x a b. absent l x (word-zero l (x / 64) v (omega arith) (ap (λ w. bit w (x / 64)) e ∙ bit-zero (x / 64)))))
+    sym (lowest-zero (member l) highest (λ x a b. absent l x (word-zero l (x / 64) v (omega arith) (ap (λ w. bit w (x / 64)) e ∙ bit-zero (x / 64)))))
 
 -- where word i is the first that is not 0, and t its lowest bit that is set
 module _ (l : List ℕ) (i t : ℕ) (v : Valid l) (first : Low 64 (getD l 64 0) i) (low : Low 64 (getD l i 0) t) where
@@ -135,14 +135,14 @@ module _ (l : List ℕ) (i t : ℕ) (v : Valid l) (first : Low 64 (getD l 64 0) 
           let before : y / 64 < i = omega arith in
           absent l y (word-zero l (y / 64) v (omega arith) (first .below (y / 64) before))
 
-  found : member l 0 ≡ false → 64 * i + t ≡ lowest (member l) 4095
+  found : member l 0 ≡ false → 64 * i + t ≡ lowest (member l) highest
   found out =
       let some : ¬ (64 * i + t ≡ 0) = λ e. true≢false (sym there ∙ ap (member l) e ∙ out) in
-      sym (lowest-is (member l) 4095 (64 * i + t) (omega arith) (omega arith) there (λ y a b. none-before y b))
+      sym (lowest-is (member l) highest (64 * i + t) (omega arith) (omega arith) there (λ y a b. none-before y b))
 
 -- so the zeros below the summary's first bit, and below that word's, are counted
 pub lowest-found : (l : List ℕ) → Valid l → member l 0 ≡ false → ¬ (getD l 64 0 ≡ 0)
-    → 64 * trailingZeros 64 (getD l 64 0) + trailingZeros 64 (getD l (trailingZeros 64 (getD l 64 0)) 0) ≡ lowest (member l) 4095
+    → 64 * trailingZeros 64 (getD l 64 0) + trailingZeros 64 (getD l (trailingZeros 64 (getD l 64 0)) 0) ≡ lowest (member l) highest
 lowest-found l v out some = found l i (trailingZeros 64 (getD l i 0)) v first (trailing-low 64 (getD l i 0) (omega (arith, full)) (v .words i)) out
   where
     i : ℕ

@@ -4,16 +4,19 @@ ghost use mathlib.Core.Bool.{false, cond};
 ghost use Prim.Native.Nat.{ℕ, _<_};
 ghost use lib.Dec.{eqb};
 ghost use lib.ListN.{length};
-ghost use Rattle.blocks.specs.Search.{lowest};
-ghost use Rattle.numberset.specs.Members.{bit, member, Valid, Empty, Assigned};
+ghost use Rattle.lists.specs.Search.{lowest};
+ghost use Rattle.numberset.specs.Members.{bit, member, Valid, Empty, Assigned, limit, highest, wordCount};
+
+// The words of a set.
+pub const WORDS: usize = 65;
 
 // Makes the set empty.
 pub fn clear(set: &mut [u64])
-    requires { ⌜ length (now set) ≡ 65 ⌝ }
+    requires { ⌜ length (now set) ≡ wordCount ⌝ }
     ensures { λ r. ⌜ Empty (now (set .exit)) ⌝ }
 {
     let mut i = 0;
-    while i < 65 {
+    while i < WORDS {
         set[i] = 0;
         i += 1;
     }
@@ -21,7 +24,7 @@ pub fn clear(set: &mut [u64])
 
 // Puts x in, or takes it out.
 pub fn assign(set: &mut [u64], x: usize, on: bool)
-    requires { ⌜ Valid (now set) × (x < 4096) ⌝ }
+    requires { ⌜ Valid (now set) × (x < limit) ⌝ }
     ensures { λ r. ⌜ Assigned (now (set .entry)) x on (now (set .exit)) ⌝ }
 {
     let i = x / 64;
@@ -42,7 +45,7 @@ fn with_bit(w: u64, i: u32, on: bool) -> u64
 // The lowest member from 1 on; 0 where there is none. 0 itself is no member.
 pub fn lowest(set: &[u64]) -> usize
     requires { ⌜ Valid (now set) × (member (now set) 0 ≡ false) ⌝ }
-    ensures { λ r. ⌜ r ≡ lowest (member (now (set .entry))) 4095 ⌝ }
+    ensures { λ r. ⌜ r ≡ lowest (member (now (set .entry))) highest ⌝ }
 {
     let summary = set[64];
     if summary == 0 {

@@ -1,15 +1,20 @@
 // The planning program (document 01, "Records of the program"): records from standard input, records to standard output.
 use libc::STDIN_FILENO;
 use libc::STDOUT_FILENO;
+use responder::KEPT;
+use responder::LONGEST_ANSWER;
 
-// The first 32,007 bytes decide the answer (`Enough` in `responder`): what stands behind them is read and not kept.
+// How much is read at a time of what is not kept.
+const PART: usize = 4096;
+
+// The first KEPT bytes decide the answer (`Enough` in `responder`): what stands behind them is read and not kept.
 fn main() {
-    let mut input = [0u8; 32007];
+    let mut input = [0u8; KEPT];
     let n = io::read_full(STDIN_FILENO, &mut input);
-    if n == 32007 {
+    if n == responder::kept() {
         read_rest();
     }
-    let mut out = [0u8; 48006];
+    let mut out = [0u8; LONGEST_ANSWER];
     let size = responder::respond(&input[..n], &mut out);
     io::write_all(STDOUT_FILENO, &out[..size]);
 }
@@ -24,6 +29,6 @@ fn read_rest() {
 
 // Reads a part of the input, and answers whether there may be more.
 fn read_more() -> bool {
-    let mut part = [0u8; 4096];
-    io::read_full(STDIN_FILENO, &mut part) == 4096
+    let mut part = [0u8; PART];
+    io::read_full(STDIN_FILENO, &mut part) == PART
 }

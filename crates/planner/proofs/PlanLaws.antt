@@ -1,115 +1,133 @@
--- Planning whole: what each way out of `plan` answers, and what an accepted problem with room lends to `solve`. Assumes nothing.
-use Prim.Native.Nat.{ℕ, _*_, _≤_, _<_}
-use mathlib.Core.Path.{_≡_, sym, ap, ap₂, _∙_, subst}
+-- Planning whole: what each way out of `plan` answers, and what a checked problem with room lends to `solve`. Assumes nothing.
+use Prim.Native.Nat.{ℕ, zero, suc, _*_, _≤_, _<_}
+use mathlib.Core.Path.{_≡_, refl, sym, ap, ap₂, _∙_, subst}
+use mathlib.Core.Logic.{inl, inr, _≢_}
 use mathlib.Core.List.{List}
-use mathlib.Core.Option.{some}
+use mathlib.Core.Option.{none, some}
 use native.Mathlib.Omega.{arith}
 use lib.ListN.{length, take}
+use Rattle.lists.proofs.ReflectLaws.{Reflects, from-true, from-false}
+use Rattle.lists.proofs.WriteLaws.{overwrite-front}
+use Rattle.rows.specs.Rows.{Yard, rowCount, Fresh, Sized}
+use Rattle.rows.proofs.RowLaws.{sized-within}
 use Rattle.blocks.specs.State.{State}
 use Rattle.blocks.specs.Position.{Problem, Accepted}
 use Rattle.blocks.specs.Tests.{changed}
-use Rattle.blocks.specs.Method.{Method, plan, outcome}
-use Rattle.blocks.specs.Question.{allYes, firstNo}
-use Rattle.blocks.specs.Refusal.{IsMethod, PlanRefused}
-use Rattle.blocks.specs.Answer as answer
-use Rattle.blocks.specs.Answer.{flat, moves, methodOf, outcomeBy, planOutcome, planQuestions, planned, written, planAnswer, planSpace}
+use Rattle.blocks.specs.Method.{Method, plan, methodOf, outcomeBy, planOf, planOutcome}
+use Rattle.blocks.specs.Question.{allYes, firstNo, IsMethod, isMethod, asksMethod, asksRoom, problemQuestions, planQuestions, PlanRefused}
+use Rattle.blocks.specs.Answer.{flat, moves, planned, written, planAnswer, planSpace}
 use Rattle.blocks.specs.Demands.{Promise}
-use Rattle.blocks.proofs.FlatLaws.{moves-flat, length-flat, overwrite-front}
-use Rattle.blocks.proofs.QuestionLaws.{questions-accept, questions-refuse}
-use Rattle.blocks.proofs.AnswerLaws.{plan-refused, plan-refusal, plan-answered}
+use Rattle.blocks.proofs.FlatLaws.{pairs-back, length-flat}
+use Rattle.blocks.proofs.QuestionLaws.{sentence-append}
+use Rattle.blocks.proofs.DecidedLaws.{method-decided, problem-yes}
+use Rattle.blocks.proofs.AnswerLaws.{plan-refuses, plan-refusal}
+use Rattle.blocks.proofs.AnsweredLaws.{plan-accepts}
 use Rattle.blocks.proofs.Theorems.{theorems}
-use Rattle.problem.specs.Checked as problem
+use Rattle.problem.specs.Checked.{Examines}
 use Rattle.problem.specs.declared.Checked as case
-use Rattle.planner.specs.Answers.{planOf, Plans, Plannable, Solved}
+use Rattle.problem.proofs.CheckLaws.{accepted, refused-by}
+use Rattle.runs.proofs.LentLaws.{unvisited}
+use Rattle.planner.specs.Answers.{answerOf, asMethod, namedAs, Plans, Solvable, Ran, Solved}
+use Rattle.planner.specs.declared.Method as declared
+use Rattle.planner.specs.declared.Named.{Named}
+use Rattle.planner.specs.declared.Named.the-variants.{By, Unknown}
+use Rattle.planner.specs.declared.Planned.{Planned}
 use Rattle.planner.specs.declared.Planned.the-variants.{Refused, Made}
 
 -- ---- refusals
 
-refusal : {m : ℕ} {s g : State} {space : List ℕ} {k p : ℕ} → PlanRefused m s g space k p → Plans m s g space (Refused k p) space
-refusal {m} {s} {g} {space} {k} {p} r =
+refusal : {m : ℕ} {s g : State} {space : List ℕ} (k p : ℕ) → PlanRefused m s g space k p → Plans m s g space (Refused k p) space
+refusal {m} {s} {g} {space} k p r =
     let w = plan-refusal m s g space k p r in
     record {
-      asked = sym (plan-refused m s g space k p .1 r);
+      asked = sym (plan-refuses m s g space k p .1 r);
       answer = sym (w .0);
       lent = sym (w .1);
       promise = λ c d e. let z : _≡_ {A = ℕ} 0 1 = cc in absurd (omega arith);
     }
 
-pub low-way : {m : ℕ} (s g : State) (space : List ℕ) → m < 1 → Plans m s g space (Refused 1 0) space
-low-way s g space h = refusal (PlanRefused.method (λ i. omega (arith, i .low)))
+-- a number that is none of the three
+pub no-method : {n : ℕ} → n ≢ 1 → n ≢ 2 → n ≢ 3 → none ≡ methodOf n
+no-method {n} a b c = by n a b c
+  where
+    by : (j : ℕ) → j ≢ 1 → j ≢ 2 → j ≢ 3 → none ≡ methodOf j
+    by zero a b c = refl
+    by (suc zero) a b c = absurd (a refl)
+    by (suc (suc zero)) a b c = absurd (b refl)
+    by (suc (suc (suc zero))) a b c = absurd (c refl)
+    by (suc (suc (suc (suc j)))) a b c = refl
 
-pub high-way : {m : ℕ} (s g : State) (space : List ℕ) → 3 < m → Plans m s g space (Refused 1 0) space
-high-way s g space h = refusal (PlanRefused.method (λ i. omega (arith, i .high)))
+-- question 1 by the name of the number
+is-method : (m : ℕ) → Reflects (IsMethod m) (isMethod (methodOf m))
+unfolding asksMethod
+is-method m = method-decided m .decides
+
+pub unknown-way : {m : ℕ} (s g : State) (space : List ℕ) {r : Named} → namedAs r ≡ methodOf m → r ≡ Unknown → Plans m s g space (Refused 1 0) space
+unfolding planQuestions asksMethod
+unknown-way {m} s g space {r} e u =
+    refusal 1 0 (inl (refl, (refl, from-false (is-method m) (ap isMethod (sym e ∙ ap namedAs u)))))
 
 -- ---- what is written keeps the promise
 
-promised : {m : ℕ} {s g : State} {space : List ℕ} {r : ℕ} {space′ : List ℕ} {k : ℕ} → Problem s g → Solved m s g space r space′ → k ≡ r → (by : Method) → methodOf m ≡ some by
+promised : {by : Method} {s g : State} {space : List ℕ} {r : ℕ} {space′ : List ℕ} {k : ℕ} → Problem s g → Ran by s g space r space′ → k ≡ r
     → Promise by s g (moves (take (2 * k) space′))
-unfolding planOutcome
-promised {m} {s} {g} {space} {r} {space′} {k} q v e by o =
+promised {by} {s} {g} {space} {r} {space′} {k} q v e =
     let p = v .moves in
     let long : 2 * k ≡ length (flat p) = omega (arith, e, v .count, length-flat p) in
     let front : moves (take (2 * k) space′) ≡ p =
-    ap₂ (λ i l. moves (take i l)) long (v .written) ∙ ap moves (overwrite-front (flat p) space) ∙ moves-flat p in
-    let given : outcome by s g ≡ plan p = ap (λ a. outcomeBy a s g) (sym o) ∙ v .outcome in
+    ap₂ (λ i l. moves (take i l)) long (v .written) ∙ ap moves (overwrite-front (flat p) space) ∙ pairs-back p in
     let w = theorems .demand by s g q in
-    let same : w .0 ≡ p = cc (w .1, given) in
+    let same : w .0 ≡ p = cc (w .1, v .outcome) in
     subst (Promise by s g) (same ∙ sym front) (w .2)
 
--- ---- the ways out of an asked method
+-- a checked problem with room
+pub solvable : {s g : State} {space : List ℕ} {c : case.Checked} {y y′ : Yard} → Examines s g c y y′ → c ≡ case.the-variants.Accepted → Sized y → Fresh rowCount y
+    → 4 * length s ≤ length space → Solvable s g y′ space
+solvable w d z f h = record { problem = accepted (w .checks) d; sized = sized-within z (w .within); start = w .known d; visits = unvisited f w; room = h }
 
-accepted : {s g : State} {c : case.Checked} {l gl st : List ℕ} → problem.Examines s g c l gl st → c ≡ case.the-variants.Accepted → Accepted s g
-accepted {s} {g} w e = questions-accept s g .0 (sym (w .checks .asked) ∙ ap problem.askedOf e)
+-- ---- the ways out of a named method
 
-pub same-size : {s g : State} {c : case.Checked} {l gl st : List ℕ} → problem.Examines s g c l gl st → c ≡ case.the-variants.Accepted → length g ≡ length s
-same-size w e = accepted w e .problem .same
+module _ (m : ℕ) (s g : State) (space : List ℕ) (r : Named) (by : declared.Method) (e : namedAs r ≡ methodOf m) (n : r ≡ By by) where
+  method : methodOf m ≡ some (asMethod by)
+  method = sym e ∙ ap namedAs n
 
-module _ {m : ℕ} {s g : State} (space : List ℕ) {c : case.Checked} {l gl st : List ℕ} (low : 1 ≤ m) (high : m ≤ 3) (w : problem.Examines s g c l gl st) where
-  method : IsMethod m
-  method = record { low = low; high = high }
+  known : IsMethod m
+  known = from-true (is-method m) (ap isMethod method)
 
-  pub refused-way : {k p : ℕ} → c ≡ case.the-variants.Refused k p → Plans m s g space (Refused k p) space
-  refused-way {k} {p} e = refusal (PlanRefused.problem method (questions-refuse s g k p .0 (sym (w .checks .asked) ∙ ap problem.askedOf e)))
+  module _ {c : case.Checked} {y y′ : Yard} (w : Examines s g c y y′) where
+    pub refused-way : {k p : ℕ} → c ≡ case.the-variants.Refused k p → Plans m s g space (Refused k p) space
+    unfolding planQuestions asksMethod
+    refused-way {k} {p} d = refusal k p (inr (known, sentence-append (problemQuestions s g) _ k p .1 (inl (refused-by (w .checks) d))))
 
-  module _ (e : c ≡ case.the-variants.Accepted) where
-    pub room-way : length space < 4 * length s → Plans m s g space (Refused 10 0) space
-    room-way h = refusal (PlanRefused.room method (accepted w e) h)
+    module _ (d : c ≡ case.the-variants.Accepted) where
+      accept : Accepted s g
+      accept = accepted (w .checks) d
 
-    module _ (h : 4 * length s ≤ length space) {n : ℕ} (wide : n ≡ m) where
-      pub plannable : {cur rd lo bt tp gb hi seen marks : List ℕ} → 4000 ≤ length cur → length rd ≡ 65 → length lo ≡ 65 → 4001 ≤ length bt → 4001 ≤ length tp
-          → 4001 ≤ length gb → 4001 ≤ length hi → 4000 ≤ length seen → 4001 ≤ length marks → Plannable n s g cur l gl st rd lo bt tp gb hi seen marks space
-      plannable a r₁ r₂ j k i o p q =
-          record {
-            method = rw wide method;
-            lists =
-                record {
-                  problem = accepted w e;
-                  state-room = a;
-                  loads = w .loads e;
-                  goal-loads = w .goal-loads e;
-                  standings = w .stands e;
-                  ready-size = r₁;
-                  loose-size = r₂;
-                  bottom-room = j;
-                  top-room = k;
-                  root-room = i;
-                  high-room = o;
-                  seen-room = p;
-                  mark-room = q;
-                };
-            room = h;
-          }
+      pub room-way : length space < 4 * length s → Plans m s g space (Refused 10 0) space
+      unfolding planQuestions asksMethod asksRoom
+      room-way h =
+          refusal 10 0 (inr (known, sentence-append (problemQuestions s g) _ 10 0 .1 (inr (problem-yes s g .1 accept, inl (refl, (refl, λ l. omega arith))))))
 
-      -- ---- the plan
+      module _ (h : 4 * length s ≤ length space) where
+        -- ---- the plan
 
-      pub made-way : {r d : ℕ} {space′ : List ℕ} → Solved n s g space r space′ → d ≡ changed s g → Plans m s g space (Made r d) space′
-      unfolding planAnswer planSpace
-      made-way {r} {d} {space′} u same =
-          let v : Solved m s g space r space′ = subst (λ j. Solved j s g space r space′) wide u in
-          let yes : firstNo (planQuestions m s g space) ≡ allYes = plan-answered m s g space .1 (method, accepted w e, h, (v .moves, v .outcome)) in
-          record {
-            asked = sym yes;
-            answer = ap₂ (λ k j. planOf (Made k j)) (v .count) same ∙ sym (ap₂ (λ a o. planned a s g (answer.planOf o)) yes (v .outcome));
-            lent = v .written ∙ sym (ap₂ (λ a o. written a (flat (answer.planOf o)) space) yes (v .outcome));
-            promise = λ k j f by o. let count : r ≡ k = cc in promised (accepted w e .problem) v (sym count) by o;
-          }
+        pub made-way : {a : Planned} {space′ : List ℕ} → Solved (asMethod by) s g space a space′ → Plans m s g space a space′
+        unfolding planAnswer planSpace planOutcome
+        made-way {a} {space′} u = rw (u .made) (record {
+          asked = sym yes;
+          answer = ap (λ k. answerOf (Made k (changed s g))) (v .count) ∙ sym (ap₂ (λ q o. planned q s g (planOf o)) yes given);
+          lent = v .written ∙ sym (ap₂ (λ q o. written q (flat (planOf o)) space) yes given);
+          promise = λ k j f b o.
+              let count : u .count ≡ k = cc in
+              let same : asMethod by ≡ b = cc in
+              subst (λ i. Promise i s g (moves (take (2 * k) space′))) same (promised (accept .problem) v (sym count));
+        })
+          where
+            v : Ran (asMethod by) s g space (u .count) space′
+            v = u .ran
+
+            yes : firstNo (planQuestions m s g space) ≡ allYes
+            yes = plan-accepts m s g space .1 (known, accept, h)
+
+            given : outcomeBy (methodOf m) s g ≡ plan (v .moves)
+            given = ap (λ o. outcomeBy o s g) method ∙ v .outcome

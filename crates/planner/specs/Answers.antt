@@ -1,24 +1,56 @@
--- What the answers of planning say, in document 01's numbers, and what the public function promises. Assumes nothing.
+-- What the answers of planning say, in document 01's numbers, and what the public functions promise. Assumes nothing.
 use Prim.Native.Nat.{ℕ, _*_, _≤_}
 use mathlib.Core.Path.{_≡_}
+use mathlib.Core.Bool.{Bool, true, false}
 use mathlib.Core.List.{List}
-use mathlib.Core.Option.{some}
+use mathlib.Core.Option.{Option, none, some}
 use lib.ListN.{length, take}
+use Rattle.lists.specs.Lists.{overwrite}
+use Rattle.rows.specs.Rows.{Yard, Sized}
 use Rattle.blocks.specs.State.{State}
+use Rattle.blocks.specs.Position.{Accepted}
 use Rattle.blocks.specs.Move.{Plan}
-use Rattle.blocks.specs.Method.{Method, plan}
-use Rattle.blocks.specs.Question.{Asked, allYes, no′, firstNo}
-use Rattle.blocks.specs.Refusal.{IsMethod}
-use Rattle.blocks.specs.Answer.{PlanAnswer, flat, moves, overwrite, methodOf, planOutcome, planQuestions, planAnswer, planSpace}
+use Rattle.blocks.specs.Tests.{changed}
+use Rattle.blocks.specs.Method as method
+use Rattle.blocks.specs.Method.{plan, outcome, methodOf}
+use Rattle.blocks.specs.Question.{Asked, allYes, no′, firstNo, planQuestions}
+use Rattle.blocks.specs.Answer.{PlanAnswer, flat, moves, planAnswer, planSpace}
 use Rattle.blocks.specs.Demands.{Promise}
-use Rattle.runs.specs.Lent.{Roomy, Startable}
+use Rattle.problem.specs.Known.{AtStart}
+use Rattle.choices.specs.Choices.{Visits}
+use Rattle.statuses.specs.declared.Mode.{Mode}
+use Rattle.statuses.specs.declared.Mode.the-variants.{Clearing, Gn1, Gn2}
 use Rattle.planner.specs.declared.Planned.{Planned}
 use Rattle.planner.specs.declared.Planned.the-variants.{Refused, Made}
+use Rattle.planner.specs.declared.Method as declared
+use Rattle.planner.specs.declared.Named.{Named}
+use Rattle.planner.specs.declared.Named.the-variants.{By, Unknown}
+
+-- The methods of the code are those of the definitions.
+abbrev pub asMethod : declared.Method → method.Method
+asMethod declared.the-variants.Us = method.Us
+asMethod declared.the-variants.Gn1 = method.Gn1
+asMethod declared.the-variants.Gn2 = method.Gn2
+
+abbrev pub namedAs : Named → Option method.Method
+namedAs (By m) = some (asMethod m)
+namedAs Unknown = none
+
+-- The first run of a method, and whether another follows.
+abbrev pub modeOf : method.Method → Mode
+modeOf method.Us = Clearing
+modeOf method.Gn1 = Gn1
+modeOf method.Gn2 = Gn2
+
+abbrev pub isUs : method.Method → Bool
+isUs method.Us = true
+isUs method.Gn1 = false
+isUs method.Gn2 = false
 
 -- document 01's number, place, lift count and "changed": on a refusal both counts are 0.
-abbrev pub planOf : Planned → PlanAnswer
-planOf (Refused k p) = record { number = k; place = p; count = 0; changed = 0 }
-planOf (Made c d) = record { number = 0; place = 0; count = c; changed = d }
+abbrev pub answerOf : Planned → PlanAnswer
+answerOf (Refused k p) = record { number = k; place = p; count = 0; changed = 0 }
+answerOf (Made c d) = record { number = 0; place = 0; count = c; changed = d }
 
 -- Which case of the answer says what of the questions.
 abbrev pub askedOf : Planned → Asked
@@ -28,25 +60,27 @@ askedOf (Made c d) = allYes
 -- Planning: the case, document 01's numbers, the lent space whole, and demand 3 of the list that is written.
 pub record Plans (m : ℕ) (s g : State) (space : List ℕ) (r : Planned) (space′ : List ℕ) : Type 0 where
   pub asked : askedOf r ≡ firstNo (planQuestions m s g space)
-  pub answer : planOf r ≡ planAnswer m s g space
+  pub answer : answerOf r ≡ planAnswer m s g space
   pub lent : space′ ≡ planSpace m s g space
-  pub promise : (c d : ℕ) → r ≡ Made c d → (method : Method) → methodOf m ≡ some method → Promise method s g (moves (take (2 * c) space′))
+  pub promise : (c d : ℕ) → r ≡ Made c d → (by : method.Method) → methodOf m ≡ some by → Promise by s g (moves (take (2 * c) space′))
 
--- A method, what a run is lent, and room for the plan; the list for the state just long enough.
-pub record Solvable (m : ℕ) (s g : State) (cur l gl st rd lo bt tp gb hi seen marks out : List ℕ) : Type 0 where
-  pub method : IsMethod m
-  pub start : Startable s g cur l gl st rd lo bt tp gb hi seen marks
-  pub room : 4 * length s ≤ length out
-
--- The same with a list for the state that is long enough for any problem.
-pub record Plannable (m : ℕ) (s g : State) (cur l gl st rd lo bt tp gb hi seen marks out : List ℕ) : Type 0 where
-  pub method : IsMethod m
-  pub lists : Roomy s g cur l gl st rd lo bt tp gb hi seen marks
+-- A problem that has been checked, with its rows as the check left them, and room for the plan.
+pub record Solvable (s g : State) (y : Yard) (out : List ℕ) : Type 0 where
+  pub problem : Accepted s g
+  pub sized : Sized y
+  pub start : AtStart s g y
+  pub visits : Visits y 0
   pub room : 4 * length s ≤ length out
 
 -- The plan of the method is written from the front, and its length is answered.
-pub record Solved (m : ℕ) (s g : State) (out : List ℕ) (r : ℕ) (out′ : List ℕ) : Type 0 where
+pub record Ran (m : method.Method) (s g : State) (out : List ℕ) (r : ℕ) (out′ : List ℕ) : Type 0 where
   pub moves : Plan
-  pub outcome : planOutcome m s g ≡ plan moves
+  pub outcome : outcome m s g ≡ plan moves
   pub count : r ≡ length moves
   pub written : out′ ≡ overwrite (flat moves) out
+
+-- And how many supports the goal changes.
+pub record Solved (m : method.Method) (s g : State) (out : List ℕ) (r : Planned) (out′ : List ℕ) : Type 0 where
+  pub count : ℕ
+  pub ran : Ran m s g out count out′
+  pub made : r ≡ Made count (changed s g)

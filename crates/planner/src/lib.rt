@@ -1,7 +1,14 @@
 // Planning by the three methods (document 01, "The three methods"; document 001, section 3.2).
-ghost use Prim.Native.Nat.{_*_, _<_};
-ghost use Rattle.planner.specs.Answers.{Plans, Plannable, Solvable, Solved};
+ghost use mathlib.Core.Path.{_≡_};
+ghost use Rattle.blocks.specs.Method.{methodOf};
+ghost use Rattle.planner.specs.Answers.{asMethod, namedAs, modeOf, isUs, Plans, Solvable, Ran, Solved};
+use numberset::WORDS;
 use problem::Checked;
+use rows::MOST;
+use rows::ROW;
+use rows::ROWS;
+use rows::Yard;
+use statuses::Mode;
 
 // The answer to planning: the number and place of the first "no", or the count of moves and the count of blocks whose support the goal changes.
 pub enum Planned {
@@ -9,34 +16,44 @@ pub enum Planned {
     Made { count: usize, changed: usize },
 }
 
+// Document 01's methods 1, 2 and 3.
+pub enum Method {
+    Us,
+    Gn1,
+    Gn2,
+}
+
+// A number by which a method is asked for.
+pub enum Named {
+    By(Method),
+    Unknown,
+}
+
+// Question 1: the method of a number.
+pub fn method_of(number: u16) -> Named
+    ensures { λ r. ⌜ namedAs r ≡ methodOf number ⌝ }
+{
+    match number {
+        1 => Named::By(Method::Us),
+        2 => Named::By(Method::Gn1),
+        3 => Named::By(Method::Gn2),
+        _ => Named::Unknown,
+    }
+}
+
 // Questions 1 to 10, and then the plan of the method, written from the front of the lent space, for any numbers and lists.
 pub fn plan(method: u16, initial: &[u16], goal: &[u16], out: &mut [u16]) -> Planned
     ensures { λ r. ⌜ Plans method (now (initial .entry)) (now (goal .entry)) (now (out .entry)) r (now (out .exit)) ⌝ }
 {
-    if method < 1 {
+    let named = method_of(method);
+    let Named::By(by) = named else {
         return Planned::Refused {
             number: 1,
             place: 0,
         };
-    }
-    if 3 < method {
-        return Planned::Refused {
-            number: 1,
-            place: 0,
-        };
-    }
-    let mut load = [0u16; 4001];
-    let mut wanted = [0u16; 4001];
-    let mut stands = [0u16; 4001];
-    let mut bottoms = [0u16; 4001];
-    let checked = problem::examine(
-        initial,
-        goal,
-        &mut load,
-        &mut wanted,
-        &mut stands,
-        &mut bottoms,
-    );
+    };
+    let mut yard = [[0u16; ROW]; ROWS];
+    let checked = problem::examine(initial, goal, &mut yard);
     if let Checked::Refused { number, place } = checked {
         return Planned::Refused { number, place };
     }
@@ -46,173 +63,68 @@ pub fn plan(method: u16, initial: &[u16], goal: &[u16], out: &mut [u16]) -> Plan
             place: 0,
         };
     }
-    let mut cur = [0u16; 4000];
-    let mut ready = [0u64; 65];
-    let mut loose = [0u64; 65];
-    let mut tops = [0u16; 4001];
-    let mut roots = [0u16; 4001];
-    let mut highs = [0u16; 4001];
-    let mut seen = [0u16; 4000];
-    let mut marks = [0u16; 4001];
-    let count = solve(
-        problem::wide(method),
-        initial,
-        goal,
-        &mut cur,
-        &mut load,
-        &wanted,
-        &mut stands,
-        &mut ready,
-        &mut loose,
-        &mut bottoms,
-        &mut tops,
-        &mut roots,
-        &mut highs,
-        &mut seen,
-        &mut marks,
-        out,
-    );
+    solve(by, initial, goal, &mut yard, out)
+}
+
+// The plan of a method for a problem that has been checked, whose rows are as the check left them, and room for the plan.
+pub fn solve(
+    method: Method,
+    initial: &[u16],
+    goal: &[u16],
+    yard: &mut Yard,
+    out: &mut [u16],
+) -> Planned
+    requires { ⌜ Solvable (now initial) (now goal) (now yard) (now out) ⌝ }
+    ensures { λ r. ⌜ Solved (asMethod method) (now (initial .entry)) (now (goal .entry)) (now (out .entry)) r (now (out .exit)) ⌝ }
+{
+    let count = run_method(method, initial, goal, yard, out);
     Planned::Made {
         count,
         changed: problem::changed(initial, goal),
     }
 }
 
-// The plan of a method for an accepted problem, over lent lists that are long enough for any problem; answers the count of moves.
-fn solve(
-    method: usize,
+// The runs of a method on a copy of the initial state: US clears and then builds, the others make one run. Answers the count of moves.
+fn run_method(
+    method: Method,
     initial: &[u16],
     goal: &[u16],
-    cur: &mut [u16],
-    load: &mut [u16],
-    wanted: &[u16],
-    stands: &mut [u16],
-    ready: &mut [u64],
-    loose: &mut [u64],
-    bottoms: &mut [u16],
-    tops: &mut [u16],
-    roots: &mut [u16],
-    highs: &mut [u16],
-    seen: &mut [u16],
-    marks: &mut [u16],
+    yard: &mut Yard,
     out: &mut [u16],
 ) -> usize
-    requires { ⌜ Plannable method (now initial) (now goal) (now cur) (now load) (now wanted) (now stands) (now ready) (now loose) (now bottoms) (now tops) (now roots) (now highs) (now seen) (now marks) (now out) ⌝ }
-    ensures { λ r. ⌜ Solved method (now (initial .entry)) (now (goal .entry)) (now (out .entry)) r (now (out .exit)) ⌝ }
+    requires { ⌜ Solvable (now initial) (now goal) (now yard) (now out) ⌝ }
+    ensures { λ r. ⌜ Ran (asMethod method) (now (initial .entry)) (now (goal .entry)) (now (out .entry)) r (now (out .exit)) ⌝ }
 {
     let n = initial.len();
-    solve_in(
-        method,
-        initial,
-        goal,
-        &mut cur[..n],
-        load,
-        wanted,
-        stands,
-        ready,
-        loose,
-        bottoms,
-        tops,
-        roots,
-        highs,
-        seen,
-        marks,
-        out,
-    )
+    let mut room = [0u16; MOST];
+    let cur = &mut room[..n];
+    let mut sets = [[0u64; WORDS]; 2];
+    let mode = mode_of(method);
+    statuses::begin(mode, initial, goal, cur, yard, &mut sets);
+    let k = runs::run(mode, cur, goal, yard, &mut sets, out, 0);
+    if !is_us(method) {
+        return k;
+    }
+    runs::run(Mode::Building, cur, goal, yard, &mut sets, out, k)
 }
 
-// The same, with a list just long enough for the state.
-fn solve_in(
-    method: usize,
-    initial: &[u16],
-    goal: &[u16],
-    cur: &mut [u16],
-    load: &mut [u16],
-    wanted: &[u16],
-    stands: &mut [u16],
-    ready: &mut [u64],
-    loose: &mut [u64],
-    bottoms: &mut [u16],
-    tops: &mut [u16],
-    roots: &mut [u16],
-    highs: &mut [u16],
-    seen: &mut [u16],
-    marks: &mut [u16],
-    out: &mut [u16],
-) -> usize
-    requires { ⌜ Solvable method (now initial) (now goal) (now cur) (now load) (now wanted) (now stands) (now ready) (now loose) (now bottoms) (now tops) (now roots) (now highs) (now seen) (now marks) (now out) ⌝ }
-    ensures { λ r. ⌜ Solved method (now (initial .entry)) (now (goal .entry)) (now (out .entry)) r (now (out .exit)) ⌝ }
+// The first run of a method.
+fn mode_of(method: Method) -> Mode
+    ensures { λ r. ⌜ r ≡ modeOf (asMethod method) ⌝ }
 {
-    problem::zero(marks);
-    statuses::begin(
-        method,
-        initial,
-        goal,
-        cur,
-        load,
-        wanted,
-        stands,
-        ready,
-        loose,
-        bottoms,
-        tops,
-        roots,
-        highs,
-    );
-    if method == 1 {
-        let k = runs::run(
-            0,
-            cur,
-            goal,
-            load,
-            wanted,
-            stands,
-            ready,
-            loose,
-            bottoms,
-            tops,
-            roots,
-            highs,
-            seen,
-            marks,
-            out,
-            0,
-        );
-        return runs::run(
-            1,
-            cur,
-            goal,
-            load,
-            wanted,
-            stands,
-            ready,
-            loose,
-            bottoms,
-            tops,
-            roots,
-            highs,
-            seen,
-            marks,
-            out,
-            k,
-        );
+    match method {
+        Method::Us => Mode::Clearing,
+        Method::Gn1 => Mode::Gn1,
+        Method::Gn2 => Mode::Gn2,
     }
-    runs::run(
-        method,
-        cur,
-        goal,
-        load,
-        wanted,
-        stands,
-        ready,
-        loose,
-        bottoms,
-        tops,
-        roots,
-        highs,
-        seen,
-        marks,
-        out,
-        0,
-    )
+}
+
+fn is_us(method: Method) -> bool
+    ensures { λ r. ⌜ r ≡ isUs (asMethod method) ⌝ }
+{
+    match method {
+        Method::Us => true,
+        Method::Gn1 => false,
+        Method::Gn2 => false,
+    }
 }

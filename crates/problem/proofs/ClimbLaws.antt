@@ -11,17 +11,21 @@ use borrow.Author.Tests.{eq-eqb, ne-eqb}
 use lib.Dec.{eqb}
 use lib.ListN.{length, getD, set, length-set}
 use lib.Seq.{getD-set-same, getD-set-other}
-use Rattle.blocks.specs.State.{State, support, down, Grounded}
-use Rattle.blocks.specs.Search.{pick, count}
+use Rattle.blocks.specs.State.{State, most, support, down, Grounded}
+use Rattle.lists.specs.Search.{pick, count}
 use Rattle.blocks.specs.Position.{InPosition}
 use Rattle.blocks.specs.Tests.{load}
-use Rattle.blocks.proofs.Reflect.{Reflects, holds, fails, not-not, reflects-not, reflects-and, reflects-iff, eqb-reflects, same?}
-use Rattle.blocks.proofs.SearchLaws.{count-one-more}
+use Rattle.blocks.specs.Question.{firstOutside, firstShared}
+use Rattle.lists.proofs.ReflectLaws.{Reflects, holds, fails, not-not, reflects-not, reflects-and, reflects-iff, eqb-reflects, same?}
+use Rattle.lists.proofs.SearchLaws.{count-one-more}
 use Rattle.blocks.proofs.StateLaws.{support-at}
 use Rattle.blocks.proofs.ClearLaws.{load-rests, load-block, load-none}
 use Rattle.blocks.proofs.PositionLaws.{position-table, position-beneath, position-on}
-use Rattle.blocks.proofs.QuestionLaws.{entries-yes, carries-yes}
-use Rattle.problem.specs.Known.{Zeros, standsAs, Standable, Climbable, Standings}
+use Rattle.blocks.proofs.DecidedLaws.{entries-yes, carries-yes}
+use Rattle.lists.specs.Lists.{Zeros}
+use Rattle.rows.specs.Rows.{Yard, row, store, Within, rowSize}
+use Rattle.rows.proofs.RowLaws.{within-none, within-store, within-then, stored, stored-beside}
+use Rattle.problem.specs.Known.{Loads, standsAs, Standable, Climbable, Climbed, Standings}
 
 -- ---- one block
 
@@ -40,6 +44,9 @@ picked-rests s i = go (eqb (getD s i 0) 0) (eqb-reflects (getD s i 0) 0)
     go true (holds e) = e
     go false (fails n) = refl
 
+looked-rests : (s : State) (i : ℕ) {x : ℕ} → x ≡ pick (eqb (getD s i 0) 0) (suc i) → support s x ≡ 0
+looked-rests s i is = ap (support s) is ∙ picked-rests s i
+
 pick-le : (t : Bool) (x : ℕ) → pick t x ≤ x
 pick-le true x = omega arith
 pick-le false x = omega arith
@@ -48,15 +55,15 @@ pick-same : (t : Bool) (x : ℕ) → pick t x ≢ 0 → pick t x ≡ x
 pick-same true x h = refl
 pick-same false x h = absurd (h refl)
 
--- the three answers, where the support was looked up at x′
-pub stands-right : (st : List ℕ) (x x′ y : ℕ) → x′ ≡ x → x ≡ y → getD st x′ 0 ≡ 2 → 2 ≡ standsAs x y (getD st x 0)
-stands-right st x x′ y f e h = rw (eq-eqb x y e, eq-eqb (getD st x 0) 2 (ap (λ k. getD st k 0) (sym f) ∙ h))
+-- the three answers
+pub stands-right : (x y m : ℕ) → x ≡ y → m ≡ 2 → 2 ≡ standsAs x y m
+stands-right x y m e h = rw (eq-eqb x y e, eq-eqb m 2 h)
 
-pub stands-other : (st : List ℕ) (x y : ℕ) → x ≢ y → 1 ≡ standsAs x y (getD st x 0)
-stands-other st x y n = rw (ne-eqb x y n)
+pub stands-other : (x y m : ℕ) → x ≢ y → 1 ≡ standsAs x y m
+stands-other x y m n = rw (ne-eqb x y n)
 
-pub stands-wrong : (st : List ℕ) (x x′ y : ℕ) → x′ ≡ x → x ≡ y → getD st x′ 0 ≢ 2 → 1 ≡ standsAs x y (getD st x 0)
-stands-wrong st x x′ y f e n = rw (eq-eqb x y e, ne-eqb (getD st x 0) 2 (λ h. n (ap (λ k. getD st k 0) f ∙ h)))
+pub stands-wrong : (x y m : ℕ) → x ≡ y → m ≢ 2 → 1 ≡ standsAs x y m
+stands-wrong x y m e n = rw (eq-eqb x y e, ne-eqb m 2 n)
 
 cond-two : (t : Bool) → eqb (cond t 2 1) 2 ≡ t
 cond-two true = refl
@@ -109,6 +116,15 @@ pub record Climbing (s g : State) (n block next : ℕ) (st : List ℕ) : Type 0 
   -- no other block is left out
   pub roots : (b : ℕ) → b ≤ next → support s b ≡ 0 → Marked st b ⊎ (b ≡ block)
   pub loads : (b c : ℕ) → b ≢ 0 → Marked st b → support s c ≡ b → Marked st c ⊎ (c ≡ block)
+
+-- what the climb rests on
+pub record Climbs (s g : State) (y : Yard) (ld : ℕ) : Type 0 where
+  pub small : length s ≤ most
+  pub entries : firstOutside s ≡ 0
+  pub carries : firstShared s ≡ 0
+  pub same : length g ≡ length s
+  pub known : Loads s (row y ld)
+  pub sized : ld + 1 < length y
 
 -- how many turns are left at most: each looks at one block more or marks one
 abbrev pub left : State → List ℕ → ℕ → ℕ
@@ -169,7 +185,7 @@ module _ {s g : State} where
       top = omega (arith, is, pick-le (eqb (getD s next 0) 0) (suc next))
 
       on-table : support s x ≡ 0
-      on-table = ap (support s) is ∙ picked-rests s next
+      on-table = looked-rests s next is
 
       marked : Marked st 0
       marked q = omega arith
@@ -185,13 +201,13 @@ module _ {s g : State} where
           go (inr m) = ⊎-elim (λ y. inl y) (λ y. inl (subst (Marked st) (sym (y ∙ e)) marked)) (w .roots b (omega (arith, m)) r)
 
   -- the block is marked, and what rests on it comes next
-  module _ {n block next x v : ℕ} {l z st : List ℕ} (p : Climbable s g l z) (w : Climbing s g n block next st) (m : block ≢ 0)
-      (e : x ≡ getD l block 0) (f : v ≡ standsAs (getD s (block - 1) 0) (getD g (block - 1) 0) (getD st (getD s (block - 1) 0) 0)) where
+  module _ {n block next x v ld : ℕ} {rows : Yard} {st : List ℕ} (p : Climbs s g rows ld) (w : Climbing s g n block next st) (m : block ≢ 0)
+      (e : x ≡ getD (row rows ld) block 0) (f : v ≡ standsAs (getD s (block - 1) 0) (getD g (block - 1) 0) (getD st (getD s (block - 1) 0) 0)) where
     abbrev new : List ℕ
     new = set st block v
 
     is-load : x ≡ load s block
-    is-load = e ∙ p .loads .at block (omega (arith, m)) (w .inside)
+    is-load = e ∙ p .known .at block (omega (arith, m)) (w .inside)
 
     on-block : x ≢ 0 → support s x ≡ block
     on-block h = ap (support s) is-load ∙ load-rests s block (λ q. h (is-load ∙ q))
@@ -292,7 +308,7 @@ module _ {s g : State} where
     )
 
   -- no block is to be marked and all have been looked at: all that come down are marked
-  module _ {n block next : ℕ} {l z st : List ℕ} (p : Climbable s g l z) (w : Climbing s g n block next st) (e : block ≡ 0) (h : n ≤ next) where
+  module _ {n block next ld : ℕ} {rows : Yard} {st : List ℕ} (p : Climbs s g rows ld) (w : Climbing s g n block next st) (e : block ≡ 0) (h : n ≤ next) where
     -- nothing is left out
     none-out : (b : ℕ) → Marked st b ⊎ (b ≡ block) → Marked st b
     none-out b (inl y) = y
@@ -310,6 +326,7 @@ module _ {s g : State} where
     pub finish : Standings s g st
     finish = record {
       room = w .room;
+      table = w .table;
       reached = λ b j k. reflects-iff (λ y. w .known b y .0) (λ y. down-marked (y .steps) b k (y .reaches)) (reflects-not (eqb-reflects (getD st b 0) 0));
       right = λ b j k y. w .known b (down-marked (y .steps) b k (y .reaches)) .1;
       small = λ b j k. low-mark b (same? (getD st b 0) 0);
@@ -319,12 +336,98 @@ module _ {s g : State} where
         low-mark b (inl q) = omega arith
         low-mark b (inr m) = w .known b m .2
 
--- ---- what the calls ask
+-- ---- the same in the rows: the row behind that of the loads is written, and no other
 
-pub may-stand : {s g : State} {n block next : ℕ} {l z st : List ℕ} → Climbable s g l z → Climbing s g n block next st → block ≢ 0 → Standable s g st block
-may-stand {s} {g} {n} {block} {next} {l} {z} {st} p w m = record {
-  low = omega (arith, m);
-  high = w .inside;
-  same = p .same;
-  below = omega (arith, support-at s block (omega (arith, m)), entries-yes s (p .entries) block);
-}
+pub record Rising (s g : State) (ld : ℕ) (y₀ : Yard) (n block next below : ℕ) (y : Yard) : Type 0 where
+  pub given : Climbs s g y₀ ld
+  pub climbing : Climbing s g n block next (row y (ld + 1))
+  -- how the support of the block to be marked stands
+  pub carried : block ≢ 0 → below ≡ getD (row y (ld + 1)) (support s block) 0
+  pub within : Within (ld + 1) (ld + 2) y₀ y
+
+-- the rows where the climb begins: of the standings only the table's is written
+abbrev begun : ℕ → Yard → Yard
+begun ld y = store y (ld + 1) 0 2
+
+begun-within : (ld : ℕ) (y : Yard) → Within (ld + 1) (ld + 2) y (begun ld y)
+begun-within ld y = within-store (ld + 1) 0 2 within-none (omega arith) (omega arith)
+
+module _ {s g : State} {ld : ℕ} (y : Yard) where
+  pub rise-begin : {n : ℕ} → Climbable s g y ld → n ≡ length s → Rising s g ld (begun ld y) n 0 0 2 (begun ld y)
+  rise-begin p e =
+      record {
+        given =
+            record {
+              small = p .small;
+              entries = p .entries;
+              carries = p .carries;
+              same = p .same;
+              known = rw (begun-within ld y .below ld (omega arith)) (p .known);
+              sized = omega (arith, p .sized, begun-within ld y .size);
+            };
+        climbing = rw (stored y (ld + 1) 0 2 (p .sized)) (begin (p .blank .zeros) (omega (arith, p .small, p .blank .room)) e);
+        carried = λ m. absurd (m refl);
+        within = within-none;
+      }
+
+  pub rise-length : {n block next below : ℕ} {y′ : Yard} → Rising s g ld (begun ld y) n block next below y′ → length y′ ≡ length y
+  rise-length w = w .within .size ∙ begun-within ld y .size
+
+  pub rise-end : {n block next below : ℕ} {y′ : Yard} → Rising s g ld (begun ld y) n block next below y′ → block ≡ 0 → n ≤ next → Climbed s g ld y y′
+  rise-end w e h = record { stands = finish (w .given) (w .climbing) e h; within = within-then (begun-within ld y) (w .within) }
+
+module _ {s g : State} {ld : ℕ} {y₀ : Yard} where
+  module _ {n block next below : ℕ} {y : Yard} (w : Rising s g ld y₀ n block next below y) where
+    sized : ld + 1 < length y
+    sized = omega (arith, w .within .size, w .given .sized)
+
+    pub rise-look : {x : ℕ} → block ≡ 0 → next < n → x ≡ pick (eqb (getD s next 0) 0) (next + 1) → Rising s g ld y₀ n x (next + 1) 2 y
+    rise-look e h a = record {
+      given = w .given;
+      climbing = look (w .climbing) e h a;
+      carried = λ m. sym (ap (λ b. getD (row y (ld + 1)) b 0) (looked-rests s next (a ∙ rw add-one)) ∙ w .climbing .table);
+      within = w .within;
+    }
+
+    module _ (m : block ≢ 0) where
+      pub may-stand : Standable s g block
+      may-stand = record {
+        low = omega (arith, m);
+        high = w .climbing .inside;
+        same = w .given .same;
+      }
+
+      pub block-in : block < rowSize
+      block-in = omega (arith, w .climbing .inside, w .given .small)
+
+      pub loads-in : (v : ℕ) → ld < length (store y (ld + 1) block v)
+      loads-in v = rw length-set (omega (arith, sized))
+
+      module _ {x v : ℕ} (e : x ≡ getD (row (store y (ld + 1) block v) ld) block 0)
+          (f : v ≡ standsAs (getD s (block - 1) 0) (getD g (block - 1) 0) below) where
+        looked-up : v ≡ standsAs (getD s (block - 1) 0) (getD g (block - 1) 0) (getD (row y (ld + 1)) (getD s (block - 1) 0) 0)
+        looked-up =
+            f
+            ∙ ap (standsAs (getD s (block - 1) 0) (getD g (block - 1) 0))
+            (w .carried m ∙ ap (λ b. getD (row y (ld + 1)) b 0) (support-at s block (omega (arith, m))))
+
+        is-load-row : x ≡ getD (row y₀ ld) block 0
+        is-load-row = e ∙ ap (λ l. getD l block 0) (stored-beside y (ld + 1) block v ld (λ q. omega arith) ∙ w .within .below ld (omega arith))
+
+        next-carried : x ≢ 0 → v ≡ getD (row (store y (ld + 1) block v) (ld + 1)) (support s x) 0
+        next-carried h =
+            rw (stored y (ld + 1) block v sized, on-block (w .given) (w .climbing) m is-load-row looked-up h)
+            (sym (at-block (w .given) (w .climbing) m is-load-row looked-up))
+
+        pub rise-step : Rising s g ld y₀ n x next v (store y (ld + 1) block v)
+        rise-step =
+            record {
+              given = w .given;
+              climbing = rw (stored y (ld + 1) block v sized) (step (w .given) (w .climbing) m is-load-row looked-up);
+              carried = next-carried;
+              within = within-store (ld + 1) block v (w .within) (omega arith) (omega arith);
+            }
+
+        -- one turn less is left
+        pub rise-fewer : left s (row (store y (ld + 1) block v) (ld + 1)) next < left s (row y (ld + 1)) next
+        rise-fewer = rw (stored y (ld + 1) block v sized) (fewer (w .given) (w .climbing) m is-load-row looked-up)

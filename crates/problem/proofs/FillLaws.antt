@@ -7,42 +7,20 @@ use mathlib.Core.Logic.{_⊎_, inl, inr}
 use native.Mathlib.Omega.{arith}
 use native.Mathlib.Numerals.{add-one}
 use borrow.Author.Tests.{ltb-false, eqb-true, not-false, eq-eqb, ne-eqb}
-use borrow.Author.Count.{below-none, below-more}
 use lib.Dec.{ltb, eqb}
 use lib.ListN.{length, getD, set, length-set, List·getD-eq-default}
 use lib.Seq.{getD-set-same, getD-set-other}
 use mir.Syntax.{w64}
 use mir.Val.{Fits}
-use Rattle.problem.specs.Known.{Zeros, Fillable, Filled}
-use Rattle.blocks.specs.State.{State, support}
-use Rattle.blocks.specs.Search.{lowest, orElse}
+use Rattle.lists.specs.Lists.{Zeros}
+use Rattle.problem.specs.Known.{Fillable, Filled}
+use Rattle.blocks.specs.State.{State, most, support}
+use Rattle.lists.specs.Search.{lowest, orElse}
 use Rattle.blocks.specs.Tests.{load}
-use Rattle.blocks.specs.Question.{badEntry, sharesᵇ, badSupport}
-use Rattle.blocks.proofs.SearchLaws.{Passed, passed-more, lowest-none, scan-found, scan-none}
-use Rattle.blocks.proofs.Reflect.{decided, ltb-reflects, same?}
-
--- ---- zeros: the entries below i are 0
-
-pub record Zeroing (l₀ l : List ℕ) (i : ℕ) : Type 0 where
-  pub same : length l ≡ length l₀
-  pub zeros : (k : ℕ) → k < i → getD l k 0 ≡ 0
-
-pub zeroing-begin : {l : List ℕ} → Zeroing l l 0
-zeroing-begin {l} = record { same = refl; zeros = below-none (λ k. getD l k 0 ≡ 0) }
-
-pub zeroing-next : {l₀ l : List ℕ} {i : ℕ} → Zeroing l₀ l i → i < length l → Zeroing l₀ (set l i 0) (i + 1)
-zeroing-next {l₀} {l} {i} w h =
-    record { same = length-set l i 0 ∙ w .same; zeros = below-more (λ k. getD (set l i 0) k 0 ≡ 0) i before (getD-set-same l i 0 0 h) }
-  where
-    before : (k : ℕ) → k < i → getD (set l i 0) k 0 ≡ 0
-    before k b = getD-set-other l i k 0 0 (λ e. omega arith) ∙ w .zeros k b
-
-pub zeroing-end : {l₀ l : List ℕ} {i : ℕ} → Zeroing l₀ l i → length l ≤ i → Zeros l
-zeroing-end {l₀} {l} {i} w h = record { at = λ k. go k (decided (ltb-reflects k i)) }
-  where
-    go : (k : ℕ) → (k < i) ⊎ (¬ (k < i)) → getD l k 0 ≡ 0
-    go k (inl b) = w .zeros k b
-    go k (inr b) = List·getD-eq-default l 0 (omega (arith, b))
+use Rattle.blocks.specs.Question.{outsideᵇ, firstOutside, sharedᵇ, firstShared}
+use Rattle.lists.proofs.ScanLaws.{Scanned, scan-begin, scan-next, scan-found, scan-none}
+use Rattle.lists.proofs.SearchLaws.{lowest-none}
+use Rattle.lists.proofs.ReflectLaws.{decided, ltb-reflects, same?}
 
 -- ---- the test of one entry
 
@@ -56,25 +34,23 @@ block-taken {x} t m = rw (ne-eqb x 0 m)
 
 pub record Filling (s : State) (l₀ : List ℕ) (n : ℕ) (l : List ℕ) (i : ℕ) : Type 0 where
   pub all : n ≡ length s
-  pub within : i ≤ n
-  pub small : length s ≤ 4000
+  pub small : length s ≤ most
   pub same : length l ≡ length l₀
   pub room : length s < length l
-  pub entries : badEntry s ≡ 0
-  pub passed : Passed (sharesᵇ s) i
+  pub entries : firstOutside s ≡ 0
+  pub scanned : Scanned (sharedᵇ s) (length s) i
   pub at : (b : ℕ) → 1 ≤ b → b ≤ length s → getD l b 0 ≡ lowest (λ c. eqb (support s c) b) i
 
-pub filling-begin : {s : State} {l₀ l : List ℕ} {n : ℕ} → Fillable s l₀ → Zeros l → length l ≡ length l₀ → n ≡ length s → Filling s l n l 0
+pub filling-begin : {s : State} {l : List ℕ} {n : ℕ} → Fillable s l → n ≡ length s → Filling s l n l 0
 unfolding lowest
-filling-begin {s} {l₀} {l} {n} f z k e = record {
+filling-begin {s} {l} {n} f e = record {
   all = e;
-  within = omega arith;
   small = f .small;
   same = refl;
-  room = omega (arith, f .room);
+  room = omega (arith, f .small, f .blank .room);
   entries = f .entries;
-  passed = below-none (λ k. sharesᵇ s (suc k) ≡ false);
-  at = λ b h g. z .at b;
+  scanned = scan-begin (sharedᵇ s) (length s);
+  at = λ b h g. f .blank .zeros .at b;
 }
 
 or-none : (r : ℕ) → r ≡ orElse r 0
@@ -83,11 +59,11 @@ or-none (suc r) = refl
 
 module _ {s : State} {l₀ l : List ℕ} {n i x : ℕ} (w : Filling s l₀ n l i) (h : i < n) (e : x ≡ getD s i 0) where
   entry-le : x ≤ length s
-  unfolding badEntry
+  unfolding firstOutside outsideᵇ
   entry-le = omega (arith, ltb-false (length s) (getD s i 0) fine)
     where
       fine : ltb (length s) (getD s i 0) ≡ false
-      fine = lowest-none (λ b. ltb (length s) (support s b)) (length s) (w .entries) (suc i) (omega arith) (omega (arith, w .all))
+      fine = lowest-none (outsideᵇ s) (length s) (w .entries) (suc i) (omega arith) (omega (arith, w .all))
 
   pub entry-in : x < length l
   entry-in = omega (arith, entry-le, w .room)
@@ -96,8 +72,8 @@ module _ {s : State} {l₀ l : List ℕ} {n i x : ℕ} (w : Filling s l₀ n l i
   entry-scaled = record { fits = omega (arith, entry-le, w .small) }
 
   -- what the test of one entry says of the next block
-  next-shares : (not (eqb x 0) && not (eqb (getD l x 0) 0)) ≡ sharesᵇ s (suc i)
-  unfolding sharesᵇ
+  next-shares : (not (eqb x 0) && not (eqb (getD l x 0) 0)) ≡ sharedᵇ s (suc i)
+  unfolding sharedᵇ
   next-shares = rw (← e) (go (same? x 0))
     where
       go : (x ≡ 0) ⊎ (¬ (x ≡ 0)) → (not (eqb x 0) && not (eqb (getD l x 0) 0)) ≡ (not (eqb x 0) && not (eqb (lowest (λ c. eqb (support s c) x) i) 0))
@@ -106,9 +82,9 @@ module _ {s : State} {l₀ l : List ℕ} {n i x : ℕ} (w : Filling s l₀ n l i
 
   module _ {t : Bool} (is : t ≡ (not (eqb x 0) && not (eqb (getD l x 0) 0))) where
     pub filling-found : t ≡ true → Filled s (i + 1) l
-    unfolding badSupport
+    unfolding firstShared
     filling-found p = record {
-      place-is = scan-found (sharesᵇ s) (length s) i (omega (arith, w .all)) (w .passed) (sym next-shares ∙ (sym is ∙ p));
+      place-is = scan-found (w .scanned) (omega (arith, w .all)) (sym next-shares ∙ (sym is ∙ p));
       loads = λ z. absurd (omega arith);
     }
 
@@ -116,12 +92,11 @@ module _ {s : State} {l₀ l : List ℕ} {n i x : ℕ} (w : Filling s l₀ n l i
     unfolding lowest
     filling-next p = record {
       all = w .all;
-      within = omega arith;
       small = w .small;
       same = length-set l x (i + 1) ∙ w .same;
       room = rw length-set (w .room);
       entries = w .entries;
-      passed = passed-more (sharesᵇ s) i (w .passed) (sym next-shares ∙ (sym is ∙ p));
+      scanned = scan-next (w .scanned) (omega (arith, w .all)) (sym next-shares ∙ (sym is ∙ p));
       at = λ b low high. rw (add-one i) (go b low high (same? b x));
     }
       where
@@ -138,11 +113,11 @@ module _ {s : State} {l₀ l : List ℕ} {n i x : ℕ} (w : Filling s l₀ n l i
             (getD-set-other l x b (suc i) 0 m ∙ (w .at b low high ∙ or-none (lowest (λ c. eqb (support s c) b) i)))
 
 pub filling-end : {s : State} {l₀ l : List ℕ} {n i : ℕ} → Filling s l₀ n l i → n ≤ i → Filled s 0 l
-unfolding badSupport load
+unfolding firstShared load
 filling-end {s} {l₀} {l} {n} {i} w h = record {
-  place-is = scan-none (sharesᵇ s) (length s) i (omega (arith, w .all)) (w .passed);
+  place-is = scan-none (w .scanned) (omega (arith, w .all));
   loads = λ z. record { room = w .room; at = λ b low high. w .at b low high ∙ ap (lowest (λ c. eqb (support s c) b)) e };
 }
   where
     e : i ≡ length s
-    e = omega (arith, w .all)
+    e = omega (arith, w .all, w .scanned .within)

@@ -12,7 +12,7 @@ use mir.Val.{Fits}
 use Rattle.blocks.specs.State.{State, support, put}
 use Rattle.blocks.specs.Position.{Proper}
 use Rattle.blocks.specs.Tests.{load}
-use Rattle.blocks.proofs.Reflect.{same?, not-not, eqb-reflects}
+use Rattle.lists.proofs.ReflectLaws.{same?, not-not, eqb-reflects}
 use Rattle.blocks.proofs.StateLaws.{length-put, support-put-other, support-at, put-at}
 use Rattle.blocks.proofs.FrameLaws.{support-moved, proper-moved}
 use Rattle.blocks.proofs.ClearLaws.{load-rests, load-none, load-is}

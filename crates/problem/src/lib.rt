@@ -4,12 +4,19 @@ ghost use mathlib.Core.Bool.{not, _&&_};
 ghost use Prim.Native.Nat.{_+_, _-_, _≤_, _<_};
 ghost use lib.Dec.{eqb};
 ghost use lib.ListN.{length, getD};
-ghost use Rattle.blocks.specs.Search.{pick, lowest};
-ghost use Rattle.blocks.specs.Tests.{misplacedCount, changed};
-ghost use Rattle.blocks.specs.Question.{badEntry};
+ghost use Rattle.lists.specs.Search.{pick, lowest, count};
+ghost use Rattle.blocks.specs.State.{most};
+ghost use Rattle.blocks.specs.Tests.{changed};
+ghost use Rattle.blocks.specs.Question.{firstOutside};
 ghost use Rattle.blocks.specs.Answer.{firstDifference};
-ghost use Rattle.problem.specs.Known.{Zeros, Fillable, Filled, standsAs, Standable, Climbable, Standings, Countable, Movable, MovedTo};
-ghost use Rattle.problem.specs.Checked.{askedOf, Checks, faultOf, Surveyed, Examines};
+ghost use Rattle.rows.specs.Rows.{Fresh};
+ghost use Rattle.problem.specs.Known.{Fillable, Filled, standsAs, Standable, Climbable, Climbed, Movable, MovedTo};
+ghost use Rattle.problem.specs.Checked.{askedOf, Checks, faultOf, Surveyable, Surveyed, Examines};
+use rows::CHECKED;
+use rows::GOAL_LOADS;
+use rows::LOADS;
+use rows::MOST;
+use rows::ROW;
 
 // The answer to a check: accepted, or the number and place of the first "no".
 pub enum Checked {
@@ -21,34 +28,17 @@ pub enum Checked {
 pub fn check(initial: &[u16], goal: &[u16]) -> Checked
     ensures { λ r. ⌜ Checks (now (initial .entry)) (now (goal .entry)) r ⌝ }
 {
-    let mut load = [0u16; 4001];
-    let mut wanted = [0u16; 4001];
-    let mut stands = [0u16; 4001];
-    let mut spare = [0u16; 4001];
-    examine(
-        initial,
-        goal,
-        &mut load,
-        &mut wanted,
-        &mut stands,
-        &mut spare,
-    )
+    let mut rows = [[0u16; ROW]; CHECKED];
+    examine(initial, goal, &mut rows)
 }
 
-// The same over lent lists. Where the problem is accepted they hold the loads of both states, and how the blocks stand; what `spare` holds is not said.
-pub fn examine(
-    initial: &[u16],
-    goal: &[u16],
-    load: &mut [u16],
-    wanted: &mut [u16],
-    stands: &mut [u16],
-    spare: &mut [u16],
-) -> Checked
-    requires { ⌜ (4001 ≤ length (now load)) × (4001 ≤ length (now wanted)) × (4001 ≤ length (now stands)) × (4001 ≤ length (now spare)) ⌝ }
-    ensures { λ r. ⌜ Examines (now (initial .entry)) (now (goal .entry)) r (now (load .exit)) (now (wanted .exit)) (now (stands .exit)) ⌝ }
+// The same over lent rows that are zero. Where the problem is accepted they hold the loads of both states, and how the blocks stand.
+pub fn examine(initial: &[u16], goal: &[u16], rows: &mut [[u16; ROW]]) -> Checked
+    requires { ⌜ Fresh 4 (now rows) ⌝ }
+    ensures { λ r. ⌜ Examines (now (initial .entry)) (now (goal .entry)) r (now (rows .entry)) (now (rows .exit)) ⌝ }
 {
     let n = initial.len();
-    if 4000 < n {
+    if MOST < n {
         return Checked::Refused {
             number: 2,
             place: 0,
@@ -60,21 +50,21 @@ pub fn examine(
             place: 0,
         };
     }
-    let fault = survey(initial, goal, load, stands);
+    let fault = survey(initial, goal, rows, LOADS);
     if let Fault::Sound = fault {
-        return answer(survey(goal, goal, wanted, spare), 7, 8, 9);
+        return answer(survey(goal, goal, rows, GOAL_LOADS), 7, 8, 9);
     }
     answer(fault, 4, 5, 6)
 }
 
 // The answer that a fault of one state gives, with the numbers of its three questions.
-fn answer(fault: Fault, entry: u16, shared: u16, floating: u16) -> Checked
-    ensures { λ r. ⌜ askedOf r ≡ faultOf entry shared floating fault ⌝ }
+fn answer(fault: Fault, outside: u16, shared: u16, floating: u16) -> Checked
+    ensures { λ r. ⌜ askedOf r ≡ faultOf outside shared floating fault ⌝ }
 {
     match fault {
         Fault::Sound => Checked::Accepted,
-        Fault::Entry(p) => Checked::Refused {
-            number: entry,
+        Fault::Outside(p) => Checked::Refused {
+            number: outside,
             place: p,
         },
         Fault::Shared(p) => Checked::Refused {
@@ -91,26 +81,26 @@ fn answer(fault: Fault, entry: u16, shared: u16, floating: u16) -> Checked
 // What is wrong with a list of supports, and at which block first.
 enum Fault {
     Sound,
-    Entry(u16),
+    Outside(u16),
     Shared(u16),
     Floating(u16),
 }
 
-// The three questions of one state. Where all are answered yes, `load` holds what rests on each block.
-fn survey(s: &[u16], goal: &[u16], load: &mut [u16], stands: &mut [u16]) -> Fault
-    requires { ⌜ (length (now s) ≤ 4000) × (length (now goal) ≡ length (now s)) × (length (now s) < length (now load)) × (length (now s) < length (now stands)) ⌝ }
-    ensures { λ r. ⌜ Surveyed (now (s .entry)) (now (goal .entry)) r (now (load .exit)) (now (stands .exit)) ⌝ }
+// The three questions of one state. Where all are answered yes, two rows hold what rests on each block and how each block stands.
+fn survey(s: &[u16], goal: &[u16], rows: &mut [[u16; ROW]], loads: usize) -> Fault
+    requires { ⌜ Surveyable (now s) (now goal) (now rows) loads ⌝ }
+    ensures { λ r. ⌜ Surveyed (now (s .entry)) (now (goal .entry)) r loads (now (rows .entry)) (now (rows .exit)) ⌝ }
 {
-    let p = bad_entry(s);
+    let p = first_outside(s);
     if p != 0 {
-        return Fault::Entry(p as u16);
+        return Fault::Outside(p as u16);
     }
-    let p = fill_load(s, load);
+    let p = fill_loads(s, &mut rows[loads]);
     if p != 0 {
         return Fault::Shared(p as u16);
     }
-    climb(s, goal, load, stands);
-    let p = first_unreached(stands, s.len());
+    climb(s, goal, rows, loads);
+    let p = first_floating(&rows[loads + 1], s.len());
     if p != 0 {
         return Fault::Floating(p as u16);
     }
@@ -118,13 +108,17 @@ fn survey(s: &[u16], goal: &[u16], load: &mut [u16], stands: &mut [u16]) -> Faul
 }
 
 // Question 4: the lowest block whose entry is above n; 0 where there is none.
-fn bad_entry(s: &[u16]) -> usize
-    ensures { λ r. ⌜ r ≡ badEntry (now (s .entry)) ⌝ }
+fn first_outside(s: &[u16]) -> usize
+    requires { ⌜ length (now s) ≤ most ⌝ }
+    ensures { λ r. ⌜ r ≡ firstOutside (now (s .entry)) ⌝ }
 {
+    if !any_outside(s) {
+        return 0;
+    }
     let n = s.len();
     let mut i = 0;
     while i < n {
-        if n < wide(s[i]) {
+        if n < lists::wide(s[i]) {
             return i + 1;
         }
         i += 1;
@@ -132,17 +126,32 @@ fn bad_entry(s: &[u16]) -> usize
     0
 }
 
+// Whether an entry is above n. The loop has no exit, and the compiler makes it wide.
+fn any_outside(s: &[u16]) -> bool
+    requires { ⌜ length (now s) ≤ most ⌝ }
+    ensures { λ r. ⌜ r ≡ not (eqb (firstOutside (now (s .entry))) 0) ⌝ }
+{
+    let n = s.len();
+    let high = n as u16;
+    let mut any = false;
+    let mut i = 0;
+    while i < n {
+        any = any | (high < s[i]);
+        i += 1;
+    }
+    any
+}
+
 // Question 5: the lowest block that rests where a lower one rests; 0 where there is none, and then `load` holds what rests on each block.
 // Entry 0 of `load` takes what rests on the table, and says nothing.
-pub fn fill_load(s: &[u16], load: &mut [u16]) -> usize
+fn fill_loads(s: &[u16], load: &mut [u16]) -> usize
     requires { ⌜ Fillable (now s) (now load) ⌝ }
     ensures { λ r. ⌜ Filled (now (s .entry)) r (now (load .exit)) ⌝ }
 {
-    zero(load);
     let n = s.len();
     let mut i = 0;
     while i < n {
-        let x = wide(s[i]);
+        let x = lists::wide(s[i]);
         if taken(load, x) {
             return i + 1;
         }
@@ -163,26 +172,30 @@ pub fn taken(load: &[u16], x: usize) -> bool
     load[x] != 0
 }
 
-// One climb from the table through the loads, each block once: which blocks come down to the table, and which of them are in position.
-pub fn climb(s: &[u16], goal: &[u16], load: &[u16], stands: &mut [u16])
-    requires { ⌜ Climbable (now s) (now goal) (now load) (now stands) ⌝ }
-    ensures { λ r. ⌜ Standings (now (s .entry)) (now (goal .entry)) (now (stands .exit)) ⌝ }
+// One climb from the table through the loads, each block once: which blocks come down to the table, and which of them are in position. The row behind that of
+// the loads says it.
+fn climb(s: &[u16], goal: &[u16], rows: &mut [[u16; ROW]], loads: usize)
+    requires { ⌜ Climbable (now s) (now goal) (now rows) loads ⌝ }
+    ensures { λ r. ⌜ Climbed (now (s .entry)) (now (goal .entry)) loads (now (rows .entry)) (now (rows .exit)) ⌝ }
 {
-    zero(stands);
-    stands[0] = 2;
+    let stands = loads + 1;
+    rows[stands][0] = 2;
     let n = s.len();
     let mut block = 0;
     let mut next = 0;
+    let mut below = 2; // how the support of `block` stands
     loop {
         if block == 0 {
             if n <= next {
                 return;
             }
             block = on_table(s, next);
+            below = 2;
             next += 1;
         } else {
-            stands[block] = stand(s, goal, stands, block);
-            block = wide(load[block]);
+            below = stand(s, goal, below, block);
+            rows[stands][block] = below;
+            block = lists::wide(rows[loads][block]);
         }
     }
 }
@@ -196,22 +209,24 @@ fn on_table(s: &[u16], i: usize) -> usize
 }
 
 // How block b stands, from how its support stands.
-fn stand(s: &[u16], goal: &[u16], stands: &[u16], b: usize) -> u16
-    requires { ⌜ Standable (now s) (now goal) (now stands) b ⌝ }
-    ensures { λ r. ⌜ r ≡ standsAs (getD (now (s .entry)) (b - 1) 0) (getD (now (goal .entry)) (b - 1) 0) (getD (now (stands .entry)) (getD (now (s .entry)) (b - 1) 0) 0) ⌝ }
+fn stand(s: &[u16], goal: &[u16], below: u16, b: usize) -> u16
+    requires { ⌜ Standable (now s) (now goal) b ⌝ }
+    ensures { λ r. ⌜ r ≡ standsAs (getD (now (s .entry)) (b - 1) 0) (getD (now (goal .entry)) (b - 1) 0) below ⌝ }
 {
-    let x = s[b - 1];
-    if x != goal[b - 1] {
+    if s[b - 1] != goal[b - 1] {
         return 1;
     }
-    if stands[wide(x)] == 2 { 2 } else { 1 }
+    if below == 2 { 2 } else { 1 }
 }
 
 // The lowest block from 1 to n that was not reached; 0 where there is none.
-fn first_unreached(stands: &[u16], n: usize) -> usize
+fn first_floating(stands: &[u16], n: usize) -> usize
     requires { ⌜ n < length (now stands) ⌝ }
     ensures { λ r. ⌜ r ≡ lowest (λ b. eqb (getD (now (stands .entry)) b 0) 0) n ⌝ }
 {
+    if !any_floating(stands, n) {
+        return 0;
+    }
     let mut i = 0;
     while i < n {
         if stands[i + 1] == 0 {
@@ -222,12 +237,25 @@ fn first_unreached(stands: &[u16], n: usize) -> usize
     0
 }
 
-// How many blocks are misplaced. The goal is only spoken of.
-pub fn misplaced(s: &[u16], goal: &[u16], stands: &[u16]) -> usize
-    requires { ⌜ Countable (now s) (now goal) (now stands) ⌝ }
-    ensures { λ r. ⌜ r ≡ misplacedCount (now (s .entry)) (now (goal .entry)) ⌝ }
+// Whether a block from 1 to n was not reached. The loop has no exit, and the compiler makes it wide.
+fn any_floating(stands: &[u16], n: usize) -> bool
+    requires { ⌜ n < length (now stands) ⌝ }
+    ensures { λ r. ⌜ r ≡ not (eqb (lowest (λ b. eqb (getD (now (stands .entry)) b 0) 0) n) 0) ⌝ }
 {
-    let n = s.len();
+    let mut any = false;
+    let mut i = 0;
+    while i < n {
+        any = any | (stands[i + 1] == 0);
+        i += 1;
+    }
+    any
+}
+
+// How many blocks from 1 to n do not stand in position.
+pub fn misplaced(stands: &[u16], n: usize) -> usize
+    requires { ⌜ n < length (now stands) ⌝ }
+    ensures { λ r. ⌜ r ≡ count (λ b. not (eqb (getD (now (stands .entry)) b 0) 2)) n ⌝ }
+{
     let mut c = 0;
     let mut i = 0;
     while i < n {
@@ -257,7 +285,7 @@ pub fn make_move(cur: &mut [u16], load: &mut [u16], a: usize, x: usize)
     requires { ⌜ Movable (now cur) (now load) a x ⌝ }
     ensures { λ r. ⌜ MovedTo (now (cur .entry)) a x (now (cur .exit)) (now (load .exit)) ⌝ }
 {
-    let u = wide(cur[a - 1]);
+    let u = lists::wide(cur[a - 1]);
     load[u] = 0;
     load[x] = a as u16;
     cur[a - 1] = x as u16;
@@ -268,6 +296,9 @@ pub fn first_difference(s: &[u16], goal: &[u16]) -> usize
     requires { ⌜ length (now goal) ≡ length (now s) ⌝ }
     ensures { λ r. ⌜ r ≡ firstDifference (now (s .entry)) (now (goal .entry)) ⌝ }
 {
+    if !any_difference(s, goal) {
+        return 0;
+    }
     let n = s.len();
     let mut i = 0;
     while i < n {
@@ -279,31 +310,17 @@ pub fn first_difference(s: &[u16], goal: &[u16]) -> usize
     0
 }
 
-pub fn zero(l: &mut [u16])
-    ensures { λ r. ⌜ Zeros (now (l .exit)) ⌝ }
+// Whether a block's supports differ. The loop has no exit, and the compiler makes it wide.
+fn any_difference(s: &[u16], goal: &[u16]) -> bool
+    requires { ⌜ length (now goal) ≡ length (now s) ⌝ }
+    ensures { λ r. ⌜ r ≡ not (eqb (firstDifference (now (s .entry)) (now (goal .entry))) 0) ⌝ }
 {
-    let mut i = 0;
-    while i < l.len() {
-        l[i] = 0;
-        i += 1;
-    }
-}
-
-// Copies one list over another of the same length.
-pub fn copy(from: &[u16], to: &mut [u16])
-    requires { ⌜ length (now to) ≡ length (now from) ⌝ }
-    ensures { λ r. ⌜ now (to .exit) ≡ now (from .entry) ⌝ }
-{
-    let n = from.len();
+    let n = s.len();
+    let mut any = false;
     let mut i = 0;
     while i < n {
-        to[i] = from[i];
+        any = any | (s[i] != goal[i]);
         i += 1;
     }
-}
-
-pub fn wide(x: u16) -> usize
-    ensures { λ r. ⌜ r ≡ x ⌝ }
-{
-    x as usize
+    any
 }

@@ -6,13 +6,13 @@ use native.Mathlib.Omega.{arith}
 use native.Mathlib.Numerals.{add-one}
 use lib.ListN.{length, set, length-set}
 use lib.Seq.{sets}
-use Rattle.blocks.specs.Answer.{overwrite}
+use Rattle.lists.specs.Lists.{overwrite}
 use Rattle.records.specs.Marks.{size}
 use Rattle.records.specs.Records.{recordAt, andThen, entriesAt, ReadEntries}
 use Rattle.records.specs.declared.Kind.{Kind}
 use Rattle.records.specs.declared.Found.{Found}
 use Rattle.records.specs.declared.Found.the-variants.{Record, Missing}
-use Rattle.records.proofs.PlaceLaws.{sets-front}
+use Rattle.lists.proofs.WriteLaws.{sets-front}
 use Rattle.records.proofs.ReadLaws.{found-room}
 
 pub length-entries : (k : Kind) (bytes : List ℕ) (at n : ℕ) → length (entriesAt k bytes at n) ≤ n

@@ -1,5 +1,4 @@
 pub mod MarkLaws
-pub mod PlaceLaws
 pub mod ReadLaws
 pub mod EntryLaws
 pub mod WriteLaws

@@ -7,7 +7,7 @@ use native.Mathlib.Omega.{arith}
 use borrow.Author.Tests.{le-leb, lt-leb, eq-eqb, ne-eqb, leb-true, eqb-true, lt-ltb, not-true, not-false}
 use lib.Dec.{leb, ltb, eqb}
 use lib.ListN.{length, getD}
-use Rattle.blocks.specs.Search.{pick}
+use Rattle.lists.specs.Search.{pick}
 use Rattle.records.specs.Marks.{markOf, size}
 use Rattle.records.specs.Records.{fieldAt, hasRecord, fieldOf, recordAt, foundIf}
 use Rattle.records.specs.declared.Kind.{Kind}

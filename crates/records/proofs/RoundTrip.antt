@@ -10,15 +10,16 @@ use borrow.Author.Tests.{le-leb, eq-eqb, lt-ltb, eqb-true}
 use lib.Dec.{leb, ltb, eqb, lit<}
 use lib.ListN.{length, getD, take, drop, length-append}
 use lib.Seq.{drop-cons}
-use Rattle.blocks.specs.Search.{pick}
+use Rattle.lists.specs.Search.{pick}
 use Rattle.records.specs.Marks.{markOf, size}
-use Rattle.records.specs.Records.{fieldAt, hasRecord, fieldOf, recordAt, foundIf, entriesAt, fieldBytes, recordBytes, overwriteAt}
+use Rattle.records.specs.Records.{fieldAt, hasRecord, fieldOf, recordAt, foundIf, entriesAt, fieldBytes, recordBytes}
+use Rattle.lists.specs.Lists.{overwriteAt}
 use Rattle.records.specs.RoundTrip.{RoundTrip, Bytes, entryBytes, EntriesTrip}
 use Rattle.records.specs.declared.Kind.{Kind}
 use Rattle.records.specs.declared.Found.{Found}
 use Rattle.records.specs.declared.Found.the-variants.{Record, Missing}
 use Rattle.records.proofs.MarkLaws.{fields-low, fields-high, by-fields, high-small, low-small, own-mark}
-use Rattle.records.proofs.PlaceLaws.{length-overwrite-at, getD-overwrite-at, overwrite-between}
+use Rattle.lists.proofs.WriteLaws.{length-overwrite-at, getD-overwrite-at, overwrite-between}
 use Rattle.records.proofs.ReadLaws.{found-has, found-room, found-first, found-second, has-high, has-low}
 use Rattle.records.proofs.EntryLaws.{entries-more}
 use Rattle.records.proofs.WriteLaws.{length-record}

@@ -5,8 +5,8 @@ use mathlib.Core.Bool.{Bool, true, false, _&&_}
 use mathlib.Core.List.{List, [], _∷_, _++_}
 use lib.Dec.{leb, ltb, eqb}
 use lib.ListN.{length, getD, take, drop}
-use Rattle.blocks.specs.Search.{pick}
-use Rattle.blocks.specs.Answer.{overwrite}
+use Rattle.lists.specs.Search.{pick}
+use Rattle.lists.specs.Lists.{overwrite, overwriteAt}
 use Rattle.records.specs.Marks.{markOf, size}
 use Rattle.records.specs.declared.Kind.{Kind}
 use Rattle.records.specs.declared.Found.{Found}
@@ -60,10 +60,6 @@ fieldBytes (v ∷ vs) = v / 256 ∷ v % 256 ∷ fieldBytes vs
 -- The bytes of a record: its mark, and as many of the given numbers as it has fields.
 unfoldable pub recordBytes : Kind → List ℕ → List ℕ
 recordBytes k vs = markOf k .high ∷ markOf k .low ∷ fieldBytes (take (markOf k .fields) vs)
-
--- What a space holds with some numbers written from a place on: before and after them what it held.
-unfoldable pub overwriteAt : ℕ → List ℕ → List ℕ → List ℕ
-overwriteAt at written space = take at space ++ overwrite written (drop at space)
 
 -- The record stands at the place, all else is as it was, and the place after it is answered.
 pub record PutRecord (k : Kind) (x y at : ℕ) (space : List ℕ) (next : ℕ) (space′ : List ℕ) : Type 0 where

@@ -6,9 +6,10 @@ use mathlib.Core.Logic.{_≢_}
 use mathlib.Core.List.{List, [], _∷_, _++_}
 use lib.Dec.{ltb}
 use lib.ListN.{length, getD, take, drop}
-use Rattle.blocks.specs.Search.{pick}
+use Rattle.lists.specs.Search.{pick}
 use Rattle.records.specs.Marks.{markOf, size}
-use Rattle.records.specs.Records.{recordAt, entriesAt, recordBytes, overwriteAt}
+use Rattle.records.specs.Records.{recordAt, entriesAt, recordBytes}
+use Rattle.lists.specs.Lists.{overwriteAt}
 use Rattle.records.specs.declared.Kind.{Kind}
 use Rattle.records.specs.declared.Found.the-variants.{Record, Missing}
 

@@ -1,35 +1,42 @@
 -- Questions behind others: what a list of questions comes to by what its parts come to. Assumes nothing.
-use Prim.Native.Nat.{ℕ}
+use Prim.Native.Nat.{ℕ, _*_, _≤_}
 use mathlib.Core.Path.{_≡_, refl}
-use mathlib.Core.Bool.{Bool, true, false}
+use mathlib.Core.Bool.{Bool, true, false, cond}
 use mathlib.Core.List.{List, [], _∷_, _++_}
-use native.Mathlib.Omega.{arith}
-use Rattle.blocks.specs.Question.{Question, asks, allYes, no′, firstNo}
+use lib.ListN.{length}
+use Rattle.blocks.specs.State.{State}
+use Rattle.blocks.specs.Method.{planOutcome}
+use Rattle.blocks.specs.Question.{Question, allYes, no′, firstNo, AllYes, asksMethod, asksRoom, asksPlan, problemQuestions, planQuestions}
+use Rattle.blocks.proofs.QuestionLaws.{Decides, first-no, first-no-append}
+use Rattle.blocks.proofs.DecidedLaws.{room-decided}
 
-clash : {A : Type 0} {k p : ℕ} → no′ k p ≡ allYes → A
-clash e = let z : _≡_ {A = ℕ} 0 1 = cc in absurd (omega arith)
-
--- all yes, so the first is
-pub yes-first : (k : ℕ) (t : Bool) (p : ℕ) (qs : List Question) → firstNo (asks k t p ∷ qs) ≡ allYes → (t ≡ true) × (firstNo qs ≡ allYes)
-yes-first k true p qs e = (refl, e)
-yes-first k false p qs e = clash e
-
--- all yes, so those behind are
-pub yes-behind : (qs rs : List Question) → firstNo (qs ++ rs) ≡ allYes → firstNo rs ≡ allYes
-yes-behind [] rs e = e
-yes-behind (asks k true p ∷ qs) rs e = yes-behind qs rs e
-yes-behind (asks k false p ∷ qs) rs e = clash e
+-- a question asked twice
+pub once : (q : Question) (rs : List Question) → firstNo (q ∷ q ∷ rs) ≡ firstNo (q ∷ rs)
+once q rs = by (q .test)
+  where
+    by : (t : Bool) → cond t (cond t (firstNo rs) (no′ (q .number) (q .place))) (no′ (q .number) (q .place)) ≡ cond t (firstNo rs) (no′ (q .number) (q .place))
+    by true = refl
+    by false = refl
 
 -- others behind that come to the same where all before are yes
 pub same-behind : (qs rs rs′ : List Question) → (firstNo qs ≡ allYes → firstNo rs ≡ firstNo rs′) → firstNo (qs ++ rs) ≡ firstNo (qs ++ rs′)
 same-behind [] rs rs′ h = h refl
-same-behind (asks k true p ∷ qs) rs rs′ h = same-behind qs rs rs′ h
-same-behind (asks k false p ∷ qs) rs rs′ h = refl
-
--- a yes behind others may be left out
-pub without-yes : (qs : List Question) (k : ℕ) (t : Bool) (p : ℕ) (rs : List Question) → t ≡ true → firstNo (qs ++ (asks k t p ∷ rs)) ≡ firstNo (qs ++ rs)
-without-yes qs k t p rs e = same-behind qs (asks k t p ∷ rs) rs (λ _. first t e)
+same-behind (q ∷ qs) rs rs′ h = by (q .test) h (λ f. same-behind qs rs rs′ f)
   where
-    first : (t : Bool) → t ≡ true → firstNo (asks k t p ∷ rs) ≡ firstNo rs
-    first true e = refl
-    first false e = let z : _≡_ {A = ℕ} 0 1 = cc in absurd (omega arith)
+    by : (t : Bool) → (cond t (firstNo qs) (no′ (q .number) (q .place)) ≡ allYes → firstNo rs ≡ firstNo rs′)
+        → ((firstNo qs ≡ allYes → firstNo rs ≡ firstNo rs′) → firstNo (qs ++ rs) ≡ firstNo (qs ++ rs′))
+        → cond t (firstNo (qs ++ rs)) (no′ (q .number) (q .place)) ≡ cond t (firstNo (qs ++ rs′)) (no′ (q .number) (q .place))
+    by true h rest = rest h
+    by false h rest = refl
+
+-- questions with a yes may be left out
+pub without-yes : (qs ys rs : List Question) → Decides ys → AllYes ys → firstNo (qs ++ (ys ++ rs)) ≡ firstNo (qs ++ rs)
+without-yes qs ys rs d y = same-behind qs (ys ++ rs) rs (λ _. first-no-append ys rs (first-no ys d allYes .1 y))
+
+-- planning with room for the plan
+pub without-room : (m : ℕ) (s g : State) (space : List ℕ) → 4 * length s ≤ length space
+    → firstNo (planQuestions m s g space) ≡ firstNo (asksMethod m ∷ (problemQuestions s g ++ (asksPlan (planOutcome m s g) ∷ [])))
+unfolding planQuestions asksRoom
+without-room m s g space h =
+    let room = asksRoom (4 * length s) space in
+    without-yes (asksMethod m ∷ problemQuestions s g) (room ∷ []) (asksPlan (planOutcome m s g) ∷ []) (room-decided (4 * length s) space, λ _. tt) (h, tt)

@@ -1,15 +1,19 @@
 -- Document 01's whole example, and three more, by computation. Assumes nothing.
 use mathlib.Core.Path.{refl}
-use Rattle.blocks.specs.Search.{lowest, count}
+use Rattle.lists.specs.Search.{lowest, count}
 use Rattle.blocks.specs.Tests.{load, clearᵇ, groundedᵇ, agreesᵇ, inPositionᵇ, misplacedᵇ, waitingᵇ, readyᵇ, perchedᵇ, misplacedCount, changed}
-use Rattle.blocks.specs.Method.{iterate, fuel, lowestPerched, lowestReady, solving, outcome}
-use Rattle.blocks.specs.Question.{badEntry, sharesᵇ, badSupport, ungrounded, stateQuestions, problemQuestions}
-use Rattle.blocks.specs.Answer.{planOutcome, planQuestions, planAnswer}
+use Rattle.blocks.specs.Method.{iterate, fuel, lowestPerched, lowestReady, solving, outcome, planOutcome}
+use Rattle.blocks.specs.Question.{asksMethod, asksSize, asksSame, outsideᵇ, firstOutside, asksOutside, sharedᵇ, firstShared, asksShared}
+use Rattle.blocks.specs.Question.{floatingᵇ, firstFloating, asksFloating, asksRoom, asksPlan, stateQuestions, problemQuestions, planQuestions}
+use Rattle.blocks.specs.Answer.{planAnswer}
 use Rattle.records.specs.Marks.{marks, markOf}
 use Rattle.records.specs.Records.{hasRecord, fieldOf, recordAt, entriesAt, recordBytes}
-use Rattle.responder.specs.Responses.{sheetQuestions, sheetResponse, responseTo}
+use Rattle.responder.specs.Responses.{asksNows, asksGoals, asksTail, sheetQuestions, sheetResponse, responseTo}
 use Rattle.responder.specs.Example.{Examples}
 
 pub examples : Examples
-unfolding lowest count load clearᵇ groundedᵇ agreesᵇ inPositionᵇ misplacedᵇ waitingᵇ readyᵇ perchedᵇ misplacedCount changed iterate fuel lowestPerched lowestReady solving outcome badEntry sharesᵇ badSupport ungrounded stateQuestions problemQuestions planOutcome planQuestions planAnswer marks markOf hasRecord fieldOf recordAt entriesAt recordBytes sheetQuestions sheetResponse responseTo
+unfolding lowest count load clearᵇ groundedᵇ agreesᵇ inPositionᵇ misplacedᵇ waitingᵇ readyᵇ perchedᵇ misplacedCount changed iterate fuel lowestPerched
+    lowestReady solving outcome asksMethod asksSize asksSame outsideᵇ firstOutside asksOutside sharedᵇ firstShared asksShared floatingᵇ firstFloating
+    asksFloating asksRoom asksPlan stateQuestions problemQuestions planOutcome planQuestions planAnswer marks markOf hasRecord fieldOf recordAt entriesAt
+    recordBytes asksNows asksGoals asksTail sheetQuestions sheetResponse responseTo
 examples = record { whole = refl; planned = refl; refused = refl; behind = refl }

@@ -1,143 +1,99 @@
 -- The first 32,007 bytes decide the answer: every record that is asked for ends before them, and a longer input has a tail. Assumes nothing.
-use Prim.Native.Nat.{ℕ, zero, suc, _+_, _*_, _≤_, _<_}
-use mathlib.Core.Path.{_≡_, refl, sym, _∙_, ap, ap₂}
-use mathlib.Core.Logic.{_⊎_, inl, inr}
-use mathlib.Core.Bool.{Bool, true, false, _&&_}
-use mathlib.Core.List.{List, _∷_, _++_}
+use Prim.Native.Nat.{ℕ, _≤_, _<_}
+use mathlib.Core.Path.{_≡_, refl, _∙_, ap}
+use mathlib.Core.Logic.{_⊎_, inl, inr, _≢_}
+use mathlib.Core.List.{List, _∷_}
 use native.Mathlib.Omega.{arith}
-use borrow.Author.Tests.{le-leb, lt-leb, ne-eqb, ltb-true}
-use lib.Dec.{leb, ltb, eqb}
 use lib.ListN.{length, take, length-take}
-use lib.Seq.{getD-take}
-use Rattle.blocks.specs.Search.{pick}
-use Rattle.blocks.specs.Question.{Question, asks, firstNo}
-use Rattle.blocks.specs.Answer.{methodOf, isMethod, planQuestions}
-use Rattle.blocks.proofs.Reflect.{decided, leb-reflects}
-use Rattle.records.specs.Marks.{markOf, size}
-use Rattle.records.specs.Records.{fieldAt, hasRecord, fieldOf, recordAt, foundIf, andThen, entriesAt}
-use Rattle.records.specs.declared.Kind.{Kind}
+use lib.Seq.{take-all}
+use Rattle.blocks.specs.Question.{Question, Asked, allYes, no′, firstNo, FirstNo, asksMethod, asksSize, planQuestions}
+use Rattle.lists.proofs.ReflectLaws.{decided, leb-reflects}
+use Rattle.records.specs.Records.{recordAt}
 use Rattle.records.specs.declared.Kind.the-variants.{Hd, Nw, Gl}
 use Rattle.records.specs.declared.Found.{Found}
 use Rattle.records.specs.declared.Found.the-variants.{Record, Missing}
-use Rattle.responder.specs.Responses.{nowsAt, goalsAt, endAt, nows, goals, lent, recordQuestions, sheetQuestions, planRecords, reply, sheetResponse, responseBy, responseTo}
+use Rattle.sheets.specs.Sheets.{nowsAt, goalsAt, endAt, nows, goals}
+use Rattle.sheets.proofs.PlaceLaws.{size-hd, goals-at, end-at}
+use Rattle.responder.specs.Responses.{asksNows, asksGoals, asksTail, lent, sheetQuestions, planRecords, reply, sheetResponse, responseBy, responseTo}
 use Rattle.responder.specs.Bounds.{enough, Enough}
-use Rattle.responder.proofs.SizeLaws.{size-hd, goals-at, end-at}
+use Rattle.responder.proofs.SizeLaws.{enough-is}
+use Rattle.responder.proofs.CutLaws.{same-record, same-entries}
+use Rattle.responder.proofs.DecidedLaws.{sheet-accepts, sheet-refuses}
 
-module _ (cut : ℕ) (bytes : List ℕ) where
-  abbrev front : List ℕ
-  front = take cut bytes
+-- Whatever an input of more bytes says, its first "no" is the same with the others cut off.
 
-  -- ---- a record that ends before the cut
+-- the questions behind question 2, by the entries and the number of bytes
+abbrev behind : ℕ → ℕ → List ℕ → List ℕ → ℕ → List Question
+behind n m s g bytes = asksNows n s ∷ asksGoals n g ∷ asksTail n bytes ∷ planQuestions m s g (lent n)
 
-  same-room : (i : ℕ) → i ≤ cut → leb i (length front) ≡ leb i (length bytes)
-  same-room i h = by (decided (leb-reflects i (length bytes)))
+-- of two numbers of bytes that both have a tail
+tail-same : (n m : ℕ) (s g : List ℕ) {i j : ℕ} (k p : ℕ) → i ≢ endAt 0 n → j ≢ endAt 0 n
+    → FirstNo (behind n m s g i) k p → FirstNo (behind n m s g j) k p
+unfolding asksNows asksGoals asksTail
+tail-same n m s g k p a b (inl f) = inl f
+tail-same n m s g k p a b (inr (e, inl f)) = inr (e, inl f)
+tail-same n m s g k p a b (inr (e, inr (h, inl f))) = inr (e, inr (h, inl (f .0, (f .1 .0, b))))
+tail-same n m s g k p a b (inr (e, inr (h, inr (t, f)))) = absurd (a t)
+
+module _ (n m : ℕ) (bytes : List ℕ) (more : enough < length bytes) where
+  abbrev cut : List ℕ
+  cut = take enough bytes
+
+  cut-size : length cut ≡ enough
+  cut-size = omega (arith, length-take enough bytes)
+
+  same-no : (k p : ℕ) → FirstNo (sheetQuestions n m bytes) k p → FirstNo (sheetQuestions n m cut) k p
+  unfolding sheetQuestions asksMethod asksSize
+  same-no k p (inl f) = inl f
+  same-no k p (inr (i, inl f)) = inr (i, inl f)
+  same-no k p (inr (i, inr (small, f))) = inr (i, inr (small, here))
     where
-      by : (i ≤ length bytes) ⊎ (¬ (i ≤ length bytes)) → leb i (length front) ≡ leb i (length bytes)
-      by (inl l) = le-leb i (length front) (omega (arith, length-take cut bytes)) ∙ sym (le-leb i (length bytes) l)
-      by (inr m) = lt-leb i (length front) (omega (arith, length-take cut bytes, m)) ∙ sym (lt-leb i (length bytes) (omega (arith, m)))
+      s : List ℕ
+      s = nows bytes 0 n
 
-  same-field : (i : ℕ) → i + 1 < cut → fieldAt front i ≡ fieldAt bytes i
-  same-field i h = ap₂ (λ a b. 256 * a + b) (getD-take cut bytes i 0 (omega arith)) (getD-take cut bytes (i + 1) 0 h)
+      g : List ℕ
+      g = goals bytes 0 n
 
-  module _ (k : Kind) (at : ℕ) (ends : at + size k ≤ cut) where
-    same-has : hasRecord k front at ≡ hasRecord k bytes at
-    unfolding hasRecord
-    same-has =
-        ap₂
-        (λ l r. l && r)
-        (same-room (at + size k) ends)
-        (ap₂ (λ a b. eqb a (markOf k .high) && eqb b (markOf k .low)) (getD-take cut bytes at 0 (omega arith)) (getD-take cut bytes (at + 1) 0 (omega arith)))
+      nows-same : nows cut 0 n ≡ nows bytes 0 n
+      nows-same = same-entries enough bytes Nw n (nowsAt 0) (omega (arith, goals-at 0 n, enough-is, small))
 
-    same-fields : (i : ℕ) → fieldOf k front at i ≡ fieldOf k bytes at i
-    unfolding fieldOf
-    same-fields i = by (ltb i (markOf k .fields)) (λ e. same-field (at + 2 * (i + 1)) (omega (arith, ltb-true i (markOf k .fields) e)))
-      where
-        by : (t : Bool) → (t ≡ true → fieldAt front (at + 2 * (i + 1)) ≡ fieldAt bytes (at + 2 * (i + 1)))
-            → pick t (fieldAt front (at + 2 * (i + 1))) ≡ pick t (fieldAt bytes (at + 2 * (i + 1)))
-        by true e = e refl
-        by false e = refl
+      goals-same : goals cut 0 n ≡ goals bytes 0 n
+      goals-same = same-entries enough bytes Gl n (goalsAt 0 n) (omega (arith, end-at 0 n, enough-is, small))
 
-    same-record : recordAt k front at ≡ recordAt k bytes at
-    unfolding recordAt
-    same-record = ap₂ foundIf same-has (ap₂ Record (same-fields 0) (same-fields 1))
+      shorter : endAt 0 n < enough
+      shorter = omega (arith, end-at 0 n, enough-is, small)
 
-  same-entries : (k : Kind) (n at : ℕ) → at + n * size k ≤ cut → entriesAt k front at n ≡ entriesAt k bytes at n
-  unfolding entriesAt
-  same-entries k zero at h = refl
-  same-entries k (suc n) at h = ap₂ andThen (same-record k at (omega arith)) (same-entries k n (at + size k) (omega arith))
+      after : FirstNo (behind n m s g (length cut)) k p
+      after = tail-same n m s g k p (λ e. omega (arith, e, more, shorter)) (λ e. omega (arith, e, cut-size, shorter)) f
 
-  -- ---- the questions
+      here : FirstNo (behind n m (nows cut 0 n) (goals cut 0 n) (length cut)) k p
+      here = rw (nows-same, goals-same) after
 
-  same-end : (i : ℕ) → i < cut → eqb (length front) i ≡ eqb (length bytes) i
-  same-end i h = by (decided (leb-reflects (length bytes) cut))
+  -- a tail is refused
+  tailed : firstNo (sheetQuestions n m bytes) ≡ allYes → ⊥
+  unfolding sheetQuestions asksSize asksTail
+  tailed e = let y = sheet-accepts n m bytes .0 e in omega (arith, y .1 .0, y .1 .1 .1 .1 .0, more, end-at 0 n, enough-is)
+
+  same-sheet : sheetResponse n m cut ≡ sheetResponse n m bytes
+  unfolding sheetResponse
+  same-sheet = by (firstNo (sheetQuestions n m bytes)) refl
     where
-      by : (length bytes ≤ cut) ⊎ (¬ (length bytes ≤ cut)) → eqb (length front) i ≡ eqb (length bytes) i
-      by (inl l) = let same : length front ≡ length bytes = omega (arith, length-take cut bytes) in ap (λ j. eqb j i) same
-      by (inr m) = ne-eqb (length front) i (λ e. omega (arith, length-take cut bytes, m)) ∙ sym (ne-eqb (length bytes) i (λ e. omega (arith, m)))
-
--- a "no" to question 1 or 2 asks nothing of the records
-early : (t : Bool) (qs rs : List Question) (x y : List ℕ) → reply (firstNo (asks 1 t 0 ∷ asks 2 false 0 ∷ qs)) x ≡ reply (firstNo (asks 1 t 0 ∷ asks 2 false 0 ∷ rs)) y
-early true qs rs x y = refl
-early false qs rs x y = refl
-
--- The answer to a sheet by its entries and by the test for a tail.
-abbrev by-entries : ℕ → ℕ → List ℕ → List ℕ → Bool → List ℕ
-by-entries n m s g t =
-    reply
-    (firstNo
-    (asks 1 (isMethod (methodOf m)) 0
-    ∷ asks 2 (leb n 4000) 0
-    ∷ asks 12 (eqb (length s) n) (1 + length s)
-    ∷ asks 12 (eqb (length g) n) (1 + n + length g)
-    ∷ asks 12 t (2 * n + 1)
-    ∷ planQuestions m s g (lent n)))
-    (planRecords m s g (lent n))
-
-module _ (n m : ℕ) (bytes : List ℕ) where
-  -- the questions behind question 2, and the records of the plan
-  abbrev behind : List ℕ → List Question
-  behind b = recordQuestions n b ++ planQuestions m (nows b n) (goals b n) (lent n)
-
-  abbrev records : List ℕ → List ℕ
-  records b = planRecords m (nows b n) (goals b n) (lent n)
-
-  -- the answer by the test of question 2
-  abbrev by-size : Bool → List ℕ → List ℕ
-  by-size t b = reply (firstNo (asks 1 (isMethod (methodOf m)) 0 ∷ asks 2 t 0 ∷ behind b)) (records b)
-
-  long : 4000 < n → sheetResponse n m (take enough bytes) ≡ sheetResponse n m bytes
-  unfolding sheetResponse sheetQuestions
-  long h =
-      let no : leb n 4000 ≡ false = lt-leb n 4000 h in
-      ap (λ t. by-size t (take enough bytes)) no
-      ∙ early (isMethod (methodOf m)) (behind (take enough bytes)) (behind bytes) (records (take enough bytes)) (records bytes)
-      ∙ sym (ap (λ t. by-size t bytes) no)
-
-  short : n ≤ 4000 → sheetResponse n m (take enough bytes) ≡ sheetResponse n m bytes
-  unfolding sheetResponse sheetQuestions
-  short h =
-      ap₂ (λ a b. by-entries n m a b (eqb (length (take enough bytes)) (endAt n))) s g ∙ ap (by-entries n m (nows bytes n) (goals bytes n)) e
-    where
-      s : nows (take enough bytes) n ≡ nows bytes n
-      s = same-entries enough bytes Nw n nowsAt (omega (arith, goals-at n))
-
-      g : goals (take enough bytes) n ≡ goals bytes n
-      g = same-entries enough bytes Gl n (goalsAt n) (omega (arith, end-at n))
-
-      e : eqb (length (take enough bytes)) (endAt n) ≡ eqb (length bytes) (endAt n)
-      e = same-end enough bytes (endAt n) (omega (arith, end-at n))
-
-  same-sheet : sheetResponse n m (take enough bytes) ≡ sheetResponse n m bytes
-  same-sheet = by (decided (leb-reflects n 4000))
-    where
-      by : (n ≤ 4000) ⊎ (¬ (n ≤ 4000)) → sheetResponse n m (take enough bytes) ≡ sheetResponse n m bytes
-      by (inl l) = short l
-      by (inr f) = long (omega (arith, f))
+      by : (a : Asked) → firstNo (sheetQuestions n m bytes) ≡ a → sheetResponse n m cut ≡ reply a (planRecords m (nows bytes 0 n) (goals bytes 0 n) (lent n))
+      by allYes e = absurd (tailed e)
+      by (no′ k p) e =
+          let again : firstNo (sheetQuestions n m cut) ≡ no′ k p = sheet-refuses n m cut k p .1 (same-no k p (sheet-refuses n m bytes k p .0 e)) in
+          ap (λ a. reply a (planRecords m (nows cut 0 n) (goals cut 0 n) (lent n))) again
 
 pub input-bound : Enough
 unfolding responseTo
-input-bound bytes = ap (λ f. responseBy f (take enough bytes)) (same-record enough bytes Hd 0 (omega (arith, size-hd))) ∙ by (recordAt Hd bytes 0)
+input-bound bytes = whole (decided (leb-reflects (length bytes) enough))
   where
-    by : (f : Found) → responseBy f (take enough bytes) ≡ responseBy f bytes
-    by (Record n m) = same-sheet n m bytes
-    by Missing = refl
+    by : enough < length bytes → (f : Found) → responseBy f (take enough bytes) ≡ responseBy f bytes
+    by more (Record n m) = same-sheet n m bytes more
+    by more Missing = refl
+
+    whole : (length bytes ≤ enough) ⊎ (¬ (length bytes ≤ enough)) → responseTo (take enough bytes) ≡ responseTo bytes
+    whole (inl l) = ap responseTo (take-all enough bytes l)
+    whole (inr l) =
+        ap (λ f. responseBy f (take enough bytes)) (same-record enough bytes Hd 0 (omega (arith, size-hd, enough-is)))
+        ∙ by (omega (arith, l)) (recordAt Hd bytes 0)

@@ -1,8 +1,12 @@
 pub mod SizeLaws
 pub mod MoveLaws
 pub mod BehindLaws
+pub mod DecidedLaws
+pub mod PlannedLaws
 pub mod AskLaws
+pub mod AnsweredLaws
 pub mod ReplyLaws
+pub mod CutLaws
 pub mod Order
 pub mod InputBound
 pub mod AnswerBound

@@ -6,11 +6,12 @@ use native.Mathlib.Omega.{arith}
 use lib.ListN.{length, getD, take, drop, length-append, take-append-drop}
 use lib.Seq.{drop-cons, drop-drop, length-take-le}
 use Rattle.blocks.specs.Move.{_⟶_, Plan}
-use Rattle.blocks.specs.Answer.{moves, overwrite}
+use Rattle.blocks.specs.Answer.{moves}
+use Rattle.lists.specs.Lists.{overwrite, overwriteAt}
 use Rattle.records.specs.Marks.{size}
-use Rattle.records.specs.Records.{recordBytes, overwriteAt, PutRecord}
+use Rattle.records.specs.Records.{recordBytes, PutRecord}
 use Rattle.records.specs.declared.Kind.the-variants.{Lf}
-use Rattle.records.proofs.PlaceLaws.{overwrite-next}
+use Rattle.lists.proofs.WriteLaws.{overwrite-next}
 use Rattle.records.proofs.WriteLaws.{length-record}
 use Rattle.responder.specs.Responses.{moveBytes}
 use Rattle.responder.specs.Answers.{MovesFit, PutMoves}

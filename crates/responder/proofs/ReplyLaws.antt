@@ -5,20 +5,21 @@ use mathlib.Core.List.{List, [], _∷_, _++_}
 use native.Mathlib.Omega.{arith}
 use lib.ListN.{length, take, drop, length-append}
 use lib.Seq.{length-take-le}
-use Rattle.blocks.specs.Answer.{moves, overwrite}
+use Rattle.blocks.specs.State.{most}
+use Rattle.blocks.specs.Answer.{moves}
+use Rattle.lists.specs.Lists.{overwrite, overwriteAt}
 use Rattle.records.specs.Marks.{size}
-use Rattle.records.specs.Records.{recordAt, recordBytes, overwriteAt, PutRecord}
+use Rattle.records.specs.Records.{recordBytes, PutRecord}
 use Rattle.records.specs.declared.Kind.{Kind}
-use Rattle.records.specs.declared.Kind.the-variants.{Hd, Pl, Lf, No}
-use Rattle.records.specs.declared.Found.{Found}
-use Rattle.records.specs.declared.Found.the-variants.{Record, Missing}
-use Rattle.records.proofs.PlaceLaws.{overwrite-next}
+use Rattle.records.specs.declared.Kind.the-variants.{Pl, Lf, No}
+use Rattle.lists.proofs.WriteLaws.{overwrite-next}
 use Rattle.records.proofs.WriteLaws.{length-record}
 use Rattle.planner.specs.declared.Planned.{Planned}
 use Rattle.planner.specs.declared.Planned.the-variants.{Refused, Made}
-use Rattle.responder.specs.Responses.{moveBytes, sheetResponse, responseBy, responseTo}
-use Rattle.responder.specs.Answers.{Wrote, Roomy, Responds, replyOf, Writable, Answered, MovesFit, PutMoves}
-use Rattle.responder.proofs.SizeLaws.{size-pl, size-lf, size-no}
+use Rattle.responder.specs.Responses.{moveBytes}
+use Rattle.responder.specs.Answers.{Wrote, Roomy, Responds, replyOf, Writable, MovesFit, PutMoves}
+use Rattle.responder.proofs.SizeLaws.{size-pl, size-lf, size-no, longest-is}
+use Rattle.responder.proofs.AnsweredLaws.{Answered}
 
 -- ---- one record at the front
 
@@ -27,10 +28,10 @@ unfolding overwriteAt
 front-record {k} {x} {y} p = record { counted = omega (arith, p .after, length-record k x y); written = p .written }
 
 pub no-room : {out : List ℕ} → Roomy out → 0 + size No ≤ length out
-no-room w = omega (arith, w .room, size-no)
+no-room w = omega (arith, w .room, longest-is, size-no)
 
 pub plan-room : {out : List ℕ} → Roomy out → 0 + size Pl ≤ length out
-plan-room w = omega (arith, w .room, size-pl)
+plan-room w = omega (arith, w .room, longest-is, size-pl)
 
 -- ---- the ways out of `write_answer`
 
@@ -39,7 +40,7 @@ pub refused-written : {a : Planned} {k p : ℕ} (pairs : List ℕ) {out : List �
 refused-written pairs {out} {r} {out′} e p = subst (λ b. Wrote (replyOf b pairs) out r out′) (sym e) (front-record p)
 
 module _ {a : Planned} {c d : ℕ} {pairs : List ℕ} (w : Writable a pairs) (e : a ≡ Made c d) where
-  abbrev counts : (c ≤ 8000) × (d ≤ 4000) × (2 * c ≤ length pairs)
+  abbrev counts : (c ≤ 2 * most) × (d ≤ most) × (2 * c ≤ length pairs)
   counts = w .counts c d e
 
   pub count-fits : c < 2 ^ 16
@@ -48,58 +49,48 @@ module _ {a : Planned} {c d : ℕ} {pairs : List ℕ} (w : Writable a pairs) (e 
   pub changed-fits : d < 2 ^ 16
   changed-fits = omega (arith, counts .1)
 
-  module _ {out : List ℕ} (room : Roomy out) {at : ℕ} {out₁ : List ℕ} (p : PutRecord Pl c d 0 out at out₁) where
-    pub moves-fit : length out₁ ≡ length out → MovesFit c pairs out₁ at
-    moves-fit same =
-        let six : c * size Lf ≡ 6 * c = rw size-lf (omega arith) in
-        record { there = counts .2; room = omega (arith, six, same, room .room, counts .0, p .after, size-pl) }
+  pub moves-fit : {x y : ℕ} {out : List ℕ} {at : ℕ} {out₁ : List ℕ} → Roomy out → PutRecord Pl x y 0 out at out₁ → length out₁ ≡ length out
+      → MovesFit c pairs out₁ at
+  moves-fit room p same =
+      let six : c * size Lf ≡ 6 * c = rw size-lf (omega arith) in
+      record { there = counts .2; room = omega (arith, six, same, room .room, longest-is, counts .0, p .after, size-pl) }
 
-    pub plan-written : {r : ℕ} {out′ : List ℕ} → PutMoves c pairs at out₁ r out′ → Wrote (replyOf a pairs) out r out′
-    plan-written {r} {out′} q = subst (λ b. Wrote (replyOf b pairs) out r out′) (sym e) (record { counted = long; written = there })
-      where
-        head : List ℕ
-        head = recordBytes Pl (c ∷ d ∷ [])
+  pub plan-written : {out : List ℕ} {at : ℕ} {out₁ : List ℕ} {r : ℕ} {out′ : List ℕ} → PutRecord Pl c d 0 out at out₁ → PutMoves c pairs at out₁ r out′
+      → Wrote (replyOf a pairs) out r out′
+  plan-written {out} {at} {out₁} {r} {out′} p q =
+      subst (λ b. Wrote (replyOf b pairs) out r out′) (sym e) (record { counted = long; written = there })
+    where
+      head : List ℕ
+      head = recordBytes Pl (c ∷ d ∷ [])
 
-        lifts : List ℕ
-        lifts = moveBytes (moves (take (2 * c) pairs))
+      lifts : List ℕ
+      lifts = moveBytes (moves (take (2 * c) pairs))
 
-        first : Wrote head out at out₁
-        first = front-record p
+      first : Wrote head out at out₁
+      first = front-record p
 
-        long : r ≡ length (head ++ lifts)
-        long = q .after ∙ ap (λ i. i + length lifts) (first .counted) ∙ sym (length-append head lifts)
+      long : r ≡ length (head ++ lifts)
+      long = q .after ∙ ap (λ i. i + length lifts) (first .counted) ∙ sym (length-append head lifts)
 
-        there : out′ ≡ overwrite (head ++ lifts) out
-        there = q .written ∙ ap₂ (λ i s. overwriteAt i lifts s) (first .counted) (first .written) ∙ overwrite-next head lifts out
-
--- ---- the way out of `respond_in`
-
-pub answered-written : {n m : ℕ} {bytes : List ℕ} {a : Planned} {space out : List ℕ} {r : ℕ} {out′ : List ℕ} → Answered n m bytes a space
-    → Wrote (replyOf a space) out r out′ → Wrote (sheetResponse n m bytes) out r out′
-answered-written {out = out} {r} {out′} w v = subst (λ l. Wrote l out r out′) (w .same) v
+      there : out′ ≡ overwrite (head ++ lifts) out
+      there = q .written ∙ ap₂ (λ i s. overwriteAt i lifts s) (first .counted) (first .written) ∙ overwrite-next head lifts out
 
 -- ---- the ways out of `respond`
 
 inside : {bytes out : List ℕ} {r : ℕ} {out′ : List ℕ} → Wrote bytes out r out′ → r ≤ length out′
 inside {bytes} {out} w = omega (arith, w .counted, ap length (w .written), length-append bytes (drop (length bytes) out))
 
-pub cramped-way : (bytes : List ℕ) {out : List ℕ} → length out < 48006 → Responds bytes out 0 out
-cramped-way bytes h = record { answers = λ l. absurd (omega arith); cramped = λ _. (refl, refl); within = (omega arith, refl) }
+pub cramped-way : (bytes : List ℕ) {out : List ℕ} → length out < 6 + 12 * most → Responds bytes out 0 out
+cramped-way bytes h = record { answers = λ l. absurd (omega (arith, l, longest-is)); cramped = λ _. (refl, refl); within = (omega arith, refl) }
 
-pub roomy : {out : List ℕ} → 48006 ≤ length out → Roomy out
-roomy h = record { room = h }
+pub roomy : {out : List ℕ} → 6 + 12 * most ≤ length out → Roomy out
+roomy h = record { room = omega (arith, h, longest-is) }
 
-module _ (bytes : List ℕ) {out : List ℕ} (room : 48006 ≤ length out) where
-  answered : {r : ℕ} {out′ : List ℕ} → Wrote (responseTo bytes) out r out′ → Responds bytes out r out′
-  answered w = record { answers = λ _. w; cramped = λ l. absurd (omega arith); within = (inside w, sym (length-take-le _ _ (inside w))) }
-
-  module _ {found : Found} (is : found ≡ recordAt Hd bytes 0) where
-    found-way : {f : Found} {r : ℕ} {out′ : List ℕ} → found ≡ f → Wrote (responseBy f bytes) out r out′ → Responds bytes out r out′
-    unfolding responseTo
-    found-way {r = r} {out′} e w = answered (subst (λ f. Wrote (responseBy f bytes) out r out′) (sym e ∙ is) w)
-
-    pub headless-way : {r : ℕ} {out′ : List ℕ} → found ≡ Missing → PutRecord No 12 0 0 out r out′ → Responds bytes out r out′
-    headless-way e p = found-way e (front-record p)
-
-    pub sheet-way : {first n m : ℕ} {r : ℕ} {out′ : List ℕ} → found ≡ Record first m → n ≡ first → Wrote (sheetResponse n m bytes) out r out′ → Responds bytes out r out′
-    sheet-way {m = m} {r} {out′} e wide w = found-way e (subst (λ i. Wrote (sheetResponse i m bytes) out r out′) wide w)
+pub written-way : {bytes : List ℕ} {a : Planned} {space out : List ℕ} {r : ℕ} {out′ : List ℕ} → 6 + 12 * most ≤ length out → Answered bytes a space
+    → Wrote (replyOf a space) out r out′ → Responds bytes out r out′
+written-way {out = out} {r} {out′} room w v =
+    record {
+      answers = λ _. subst (λ l. Wrote l out r out′) (w .same) v;
+      cramped = λ l. absurd (omega (arith, l, room, longest-is));
+      within = (inside v, sym (length-take-le _ _ (inside v)));
+    }

@@ -1,22 +1,11 @@
--- How many bytes the records have, and where they stand in the input. Assumes nothing.
-use Prim.Native.Nat.{ℕ, _+_, _*_, _^_, _≤_, _<_}
-use mathlib.Core.Path.{_≡_, refl, ap₂}
-use native.Mathlib.Omega.{arith}
+-- How many bytes the records of an answer have, and the bounds in numbers. Assumes nothing.
+use Prim.Native.Nat.{_+_, _*_}
+use mathlib.Core.Path.{_≡_, refl}
+use Rattle.blocks.specs.State.{most}
 use Rattle.records.specs.Marks.{marks, markOf, size}
-use Rattle.records.specs.declared.Kind.the-variants.{Hd, Nw, Gl, Pl, Lf, No}
-use Rattle.responder.specs.Responses.{goalsAt, endAt}
-
-pub size-hd : size Hd ≡ 6
-unfolding markOf marks
-size-hd = refl
-
-pub size-nw : size Nw ≡ 4
-unfolding markOf marks
-size-nw = refl
-
-pub size-gl : size Gl ≡ 4
-unfolding markOf marks
-size-gl = refl
+use Rattle.records.specs.declared.Kind.the-variants.{Pl, Lf, No}
+use Rattle.responder.specs.Answers.{longest}
+use Rattle.responder.specs.Bounds.{enough}
 
 pub size-pl : size Pl ≡ 6
 unfolding markOf marks
@@ -30,28 +19,10 @@ pub size-no : size No ≡ 6
 unfolding markOf marks
 size-no = refl
 
-pub goals-at : (n : ℕ) → goalsAt n ≡ 6 + 4 * n
+pub longest-is : longest ≡ 6 + 12 * most
 unfolding markOf marks
-goals-at n = omega arith
+longest-is = refl
 
-pub end-at : (n : ℕ) → endAt n ≡ 6 + 8 * n
+pub enough-is : enough ≡ 7 + 8 * most
 unfolding markOf marks
-end-at n = omega arith
-
--- ---- the sums of the code
-
-module _ {n k : ℕ} (small : n ≤ 4000) (four : k ≡ 4) where
-  product : n * k ≡ 4 * n
-  product = rw four (omega arith)
-
-  pub product-fits : n * k < 2 ^ 64
-  product-fits = omega (arith, product)
-
-  pub sum-fits : {h : ℕ} → h ≤ 32006 → h + n * k < 2 ^ 64
-  sum-fits l = omega (arith, product)
-
-pub goals-sum : (n : ℕ) {h k : ℕ} → h ≡ size Hd → k ≡ size Nw → h + n * k ≡ goalsAt n
-goals-sum n e f = ap₂ (λ i j. i + n * j) e f
-
-pub end-sum : (n : ℕ) {h k : ℕ} → h ≡ goalsAt n → k ≡ size Gl → h + n * k ≡ endAt n
-end-sum n e f = ap₂ (λ i j. i + n * j) e f
+enough-is = refl

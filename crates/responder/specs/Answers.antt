@@ -1,20 +1,27 @@
 -- What the functions promise. Assumes nothing.
 use Prim.Native.Nat.{ℕ, _+_, _*_, _≤_, _<_}
 use mathlib.Core.Path.{_≡_}
+use mathlib.Core.Logic.{_≢_}
+use mathlib.Core.Bool.{cond}
 use mathlib.Core.List.{List}
 use lib.ListN.{length, take}
-use Rattle.blocks.specs.Refusal.{IsMethod}
-use Rattle.blocks.specs.Answer.{moves, overwrite}
+use Rattle.blocks.specs.State.{most}
+use Rattle.blocks.specs.Method.{methodOf}
+use Rattle.blocks.specs.Question.{isMethod}
+use Rattle.blocks.specs.Answer.{moves}
+use Rattle.lists.specs.Lists.{overwrite, overwriteAt}
 use Rattle.records.specs.Marks.{size}
-use Rattle.records.specs.Records.{overwriteAt}
-use Rattle.records.specs.declared.Kind.the-variants.{Lf}
+use Rattle.records.specs.declared.Kind.the-variants.{Pl, Lf}
+use Rattle.planner.specs.Answers.{Plans}
 use Rattle.planner.specs.declared.Planned.{Planned}
 use Rattle.planner.specs.declared.Planned.the-variants.{Refused, Made}
-use Rattle.responder.specs.Responses.{refusalBytes, moveBytes, planBytes, sheetResponse, responseTo}
+use Rattle.sheets.specs.declared.Sheet.{Sheet}
+use Rattle.sheets.specs.declared.Sheet.the-variants.{Headless, Long, Broken, Whole}
+use Rattle.responder.specs.Responses.{refusalBytes, moveBytes, planBytes, responseTo}
 
--- The longest answer: PL and 2 × 4,000 LF records, of 6 bytes each.
+-- The longest answer: PL and the LF records of two lifts for each slab.
 abbrev pub longest : ℕ
-longest = 48006
+longest = size Pl + 2 * most * size Lf
 
 -- Some bytes stand at the front of the space, the rest is as it was, and their number is answered.
 pub record Wrote (bytes space : List ℕ) (r : ℕ) (space′ : List ℕ) : Type 0 where
@@ -32,6 +39,31 @@ pub record Responds (bytes out : List ℕ) (r : ℕ) (out′ : List ℕ) : Type 
   -- the second part follows from the first: a caller that lends the front of `out` on needs no proof
   pub within : (r ≤ length out′) × (r ≡ length (take r out′))
 
+-- ---- the questions to a sheet that was read
+
+-- A "no" of number k and place p behind question 1.
+abbrev pub refusedAs : ℕ → ℕ → ℕ → Planned
+refusedAs m k p = cond (isMethod (methodOf m)) (Refused k p) (Refused 1 0)
+
+-- A whole sheet is within the limit.
+pub record Askable (sheet : Sheet) : Type 0 where
+  pub small : (n m e : ℕ) → sheet ≡ Whole n m e → n ≤ most
+
+-- A whole sheet of an input of some size: a tail, or what planning answers to its entries.
+pub record AsksWhole (n m e size : ℕ) (initial goal space : List ℕ) (r : Planned) (space′ : List ℕ) : Type 0 where
+  pub tail : size ≢ e → r ≡ refusedAs m 12 (2 * n + 1)
+  pub plans : size ≡ e → Plans m (take n initial) (take n goal) space r space′
+
+-- What is answered to a sheet, by its case.
+abbrev pub AsksBy : Sheet → ℕ → List ℕ → List ℕ → List ℕ → Planned → List ℕ → Type 0
+AsksBy Headless size initial goal space r space′ = r ≡ Refused 12 0
+AsksBy (Long m) size initial goal space r space′ = r ≡ refusedAs m 2 0
+AsksBy (Broken m p) size initial goal space r space′ = r ≡ refusedAs m 12 p
+AsksBy (Whole n m e) size initial goal space r space′ = AsksWhole n m e size initial goal space r space′
+
+pub record Asks (sheet : Sheet) (size : ℕ) (initial goal space : List ℕ) (r : Planned) (space′ : List ℕ) : Type 0 where
+  pub by-case : AsksBy sheet size initial goal space r space′
+
 -- ---- the answer of planning as records
 
 -- The records of each case: NO with number and place, or PL with the counts and the LF records of the pairs at the front of the space.
@@ -41,27 +73,7 @@ replyOf (Made c d) pairs = planBytes c d (moves (take (2 * c) pairs))
 
 -- The counts of a plan are within the bounds, and its pairs are in the space.
 pub record Writable (a : Planned) (pairs : List ℕ) : Type 0 where
-  pub counts : (c d : ℕ) → a ≡ Made c d → (c ≤ 8000) × (d ≤ 4000) × (2 * c ≤ length pairs)
-
--- What is answered to a sheet: its records are the definition's, and they can be written.
-pub record Answered (n m : ℕ) (bytes : List ℕ) (r : Planned) (space′ : List ℕ) : Type 0 where
-  pub same : replyOf r space′ ≡ sheetResponse n m bytes
-  pub writable : Writable r space′
-
--- ---- what is lent
-
--- Lists that are long enough for any sheet.
-pub record Lent (initial goal space : List ℕ) : Type 0 where
-  pub initial-room : 4000 ≤ length initial
-  pub goal-room : 4000 ≤ length goal
-  pub space-room : 16000 ≤ length space
-
--- A method, and lists for the entries just long enough.
-pub record Reading (m : ℕ) (initial goal space : List ℕ) : Type 0 where
-  pub method : IsMethod m
-  pub small : length initial ≤ 4000
-  pub even : length goal ≡ length initial
-  pub space-room : 16000 ≤ length space
+  pub counts : (c d : ℕ) → a ≡ Made c d → (c ≤ 2 * most) × (d ≤ most) × (2 * c ≤ length pairs)
 
 -- ---- the LF records
 

@@ -1,15 +1,17 @@
 -- How much of the input decides the answer, and how long an answer can be. Statements alone; `proofs/InputBound.antt` and
 -- `proofs/AnswerBound.antt` prove them. Assumes nothing.
-use Prim.Native.Nat.{ℕ, _≤_}
+use Prim.Native.Nat.{ℕ, _+_, _≤_}
 use mathlib.Core.Path.{_≡_}
 use mathlib.Core.List.{List}
 use lib.ListN.{length, take}
+use Rattle.blocks.specs.State.{most}
+use Rattle.sheets.specs.Sheets.{endAt}
 use Rattle.responder.specs.Responses.{responseTo}
 use Rattle.responder.specs.Answers.{longest}
 
--- A byte more than the longest input without a tail: HD, 4,000 NW and 4,000 GL records.
+-- A byte more than the longest input without a tail.
 abbrev pub enough : ℕ
-enough = 32007
+enough = endAt 0 most + 1
 
 -- The answer to an input is the answer to its first 32,007 bytes.
 abbrev pub Enough : Type 0

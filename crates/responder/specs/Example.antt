@@ -21,8 +21,8 @@ abbrev pub s6Lifts : List ℕ
 s6Lifts = two 80 76 3 1 ++ (two 76 70 1 0 ++ (two 76 70 2 0 ++ two 76 70 1 2))
 
 -- Now 2 1 5, goals all 0: number 4, place 3.
-abbrev pub badEntry : List ℕ
-badEntry = two 72 68 3 2 ++ (one 78 87 2 ++ (one 78 87 1 ++ (one 78 87 5 ++ (one 71 76 0 ++ (one 71 76 0 ++ one 71 76 0)))))
+abbrev pub firstOutside : List ℕ
+firstOutside = two 72 68 3 2 ++ (one 78 87 2 ++ (one 78 87 1 ++ (one 78 87 5 ++ (one 71 76 0 ++ (one 71 76 0 ++ one 71 76 0)))))
 
 -- No slabs, and a byte after the head: number 12, place 1.
 abbrev pub tail : List ℕ
@@ -31,5 +31,5 @@ tail = two 72 68 0 1 ++ (0 ∷ [])
 pub record Examples : Type 0 where
   pub whole : responseTo input ≡ output
   pub planned : responseTo s6 ≡ s6Lifts
-  pub refused : responseTo badEntry ≡ two 78 79 4 3
+  pub refused : responseTo firstOutside ≡ two 78 79 4 3
   pub behind : responseTo tail ≡ two 78 79 12 1

@@ -1,141 +1,86 @@
 // The planning program as one function: the bytes of its input answered by the bytes of its output (document 01, "Records of the program").
 ghost use mathlib.Core.Path.{_≡_};
-ghost use Prim.Native.Nat.{_≤_};
-ghost use lib.ListN.{length};
-ghost use Rattle.responder.specs.Responses.{goalsAt, endAt, sheetResponse};
-ghost use Rattle.responder.specs.Answers.{replyOf, Responds, Lent, Reading, Answered, Writable, Roomy, Wrote, MovesFit, PutMoves};
+ghost use Rattle.responder.specs.Bounds.{enough};
+ghost use Rattle.responder.specs.Answers.{replyOf, refusedAs, Responds, Askable, Asks, Writable, Roomy, Wrote, MovesFit, PutMoves};
+use planner::Named;
 use planner::Planned;
-use records::Found;
 use records::Kind;
+use rows::MOST;
+use sheets::Sheet;
 
-// The longest output: PL, and 2 × 4,000 LF records.
-const LONGEST: usize = 48006;
+// The longest input without a tail: HD, MOST NW and MOST GL records.
+pub const LONGEST_INPUT: usize = 6 + 8 * MOST;
+
+// A byte more, by which a tail is seen.
+pub const KEPT: usize = LONGEST_INPUT + 1;
+
+// The longest output: PL and 2 × MOST LF records.
+pub const LONGEST_ANSWER: usize = 6 + 12 * MOST;
 
 // Answers the input from the front of `out`, and says how many bytes the answer has. Where `out` has no room for the longest one, it does nothing.
 pub fn respond(input: &[u8], out: &mut [u8]) -> usize
     ensures { λ r. ⌜ Responds (now (input .entry)) (now (out .entry)) r (now (out .exit)) ⌝ }
 {
-    if out.len() < LONGEST {
+    if out.len() < LONGEST_ANSWER {
         return 0;
     }
-    let found = records::read_record(Kind::Hd, input, 0);
-    let Found::Record { first, second } = found else {
-        return records::put_record(Kind::No, 12, 0, out, 0);
-    };
-    respond_to(problem::wide(first), second, input, out)
+    let mut initial = [0u16; MOST];
+    let mut goal = [0u16; MOST];
+    let mut space = [0u16; 4 * MOST];
+    let sheet = sheets::read_sheet(input, 0, &mut initial, &mut goal);
+    let answer = ask(sheet, input.len(), &initial, &goal, &mut space);
+    write_answer(answer, &space, out)
 }
 
-// The answer to the sheet of a head that says n and a method.
-fn respond_to(n: usize, method: u16, input: &[u8], out: &mut [u8]) -> usize
-    requires { ⌜ Roomy (now out) ⌝ }
-    ensures { λ r. ⌜ Wrote (sheetResponse n method (now (input .entry))) (now (out .entry)) r (now (out .exit)) ⌝ }
+// As many bytes of an input decide its answer (`Enough` in specs/Bounds.antt).
+pub fn kept() -> usize
+    ensures { λ r. ⌜ r ≡ enough ⌝ }
 {
-    let mut initial = [0u16; 4000];
-    let mut goal = [0u16; 4000];
-    let mut space = [0u16; 16000];
-    respond_in(n, method, input, &mut initial, &mut goal, &mut space, out)
+    KEPT
 }
 
-// The same, over lists that are lent.
-fn respond_in(
-    n: usize,
-    method: u16,
-    input: &[u8],
-    initial: &mut [u16],
-    goal: &mut [u16],
-    space: &mut [u16],
-    out: &mut [u8],
-) -> usize
-    requires { ⌜ Lent (now initial) (now goal) (now space) ⌝ }
-    requires { ⌜ Roomy (now out) ⌝ }
-    ensures { λ r. ⌜ Wrote (sheetResponse n method (now (input .entry))) (now (out .entry)) r (now (out .exit)) ⌝ }
-{
-    let answer = ask(n, method, input, initial, goal, space);
-    write_answer(answer, space, out)
-}
-
-// Questions 1 and 2, and then those of the records and of planning.
+// The questions to a sheet that was read from an input of some size: of a whole one the tail's, and then those of planning.
 fn ask(
-    n: usize,
-    method: u16,
-    input: &[u8],
-    initial: &mut [u16],
-    goal: &mut [u16],
+    sheet: Sheet,
+    size: usize,
+    initial: &[u16; MOST],
+    goal: &[u16; MOST],
     space: &mut [u16],
 ) -> Planned
-    requires { ⌜ Lent (now initial) (now goal) (now space) ⌝ }
-    ensures { λ r. ⌜ Answered n method (now (input .entry)) r (now (space .exit)) ⌝ }
+    requires { ⌜ Askable sheet ⌝ }
+    ensures { λ r. ⌜ Asks sheet size (now (initial .entry)) (now (goal .entry)) (now (space .entry)) r (now (space .exit)) ⌝ }
 {
-    if method < 1 {
-        return Planned::Refused {
+    match sheet {
+        Sheet::Headless => Planned::Refused {
+            number: 12,
+            place: 0,
+        },
+        Sheet::Long { method } => refused(method, 2, 0),
+        Sheet::Broken { method, before } => refused(method, 12, before),
+        Sheet::Whole { n, method, end } => {
+            if size != end {
+                refused(method, 12, (2 * n + 1) as u16)
+            } else {
+                let nows: &[u16] = initial;
+                let goals: &[u16] = goal;
+                planner::plan(method, &nows[..n], &goals[..n], space)
+            }
+        }
+    }
+}
+
+// A "no" of a question behind the first: question 1 is asked before it.
+fn refused(method: u16, number: u16, place: u16) -> Planned
+    ensures { λ r. ⌜ r ≡ refusedAs method number place ⌝ }
+{
+    let named = planner::method_of(method);
+    match named {
+        Named::By(_) => Planned::Refused { number, place },
+        Named::Unknown => Planned::Refused {
             number: 1,
             place: 0,
-        };
+        },
     }
-    if 3 < method {
-        return Planned::Refused {
-            number: 1,
-            place: 0,
-        };
-    }
-    if 4000 < n {
-        return Planned::Refused {
-            number: 2,
-            place: 0,
-        };
-    }
-    ask_records(method, input, &mut initial[..n], &mut goal[..n], space)
-}
-
-// Question 12 of the records after the head, with lists just long enough for their entries; and then planning.
-fn ask_records(
-    method: u16,
-    input: &[u8],
-    initial: &mut [u16],
-    goal: &mut [u16],
-    space: &mut [u16],
-) -> Planned
-    requires { ⌜ Reading method (now initial) (now goal) (now space) ⌝ }
-    ensures { λ r. ⌜ Answered (length (now (initial .entry))) method (now (input .entry)) r (now (space .exit)) ⌝ }
-{
-    let n = initial.len();
-    let nows = records::read_entries(Kind::Nw, input, records::size(Kind::Hd), initial);
-    if nows < n {
-        return Planned::Refused {
-            number: 12,
-            place: (1 + nows) as u16,
-        };
-    }
-    let goals = records::read_entries(Kind::Gl, input, goals_at(n), goal);
-    if goals < n {
-        return Planned::Refused {
-            number: 12,
-            place: (1 + n + goals) as u16,
-        };
-    }
-    if input.len() != end_at(n) {
-        return Planned::Refused {
-            number: 12,
-            place: (2 * n + 1) as u16,
-        };
-    }
-    planner::plan(method, initial, goal, space)
-}
-
-// Where the GL records begin.
-fn goals_at(n: usize) -> usize
-    requires { ⌜ n ≤ 4000 ⌝ }
-    ensures { λ r. ⌜ r ≡ goalsAt n ⌝ }
-{
-    records::size(Kind::Hd) + n * records::size(Kind::Nw)
-}
-
-// Where the last record ends.
-fn end_at(n: usize) -> usize
-    requires { ⌜ n ≤ 4000 ⌝ }
-    ensures { λ r. ⌜ r ≡ endAt n ⌝ }
-{
-    goals_at(n) + n * records::size(Kind::Gl)
 }
 
 // Writes an answer: NO, or PL and the LF records of the pairs.
@@ -161,7 +106,9 @@ fn write_moves(count: usize, pairs: &[u16], out: &mut [u8], start: usize) -> usi
     let mut at = start;
     let mut i = 0;
     while i < count {
-        at = records::put_record(Kind::Lf, pairs[2 * i], pairs[2 * i + 1], out, at);
+        let block = pairs[2 * i];
+        let support = pairs[2 * i + 1];
+        at = records::put_record(Kind::Lf, block, support, out, at);
         i += 1;
     }
     at

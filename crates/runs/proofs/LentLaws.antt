@@ -1,21 +1,23 @@
 -- What a run may rely on at its start, and what its end says of the method's steps. Assumes nothing.
-use Prim.Native.Nat.{ℕ, _*_, _≤_, _<_}
-use mathlib.Core.Path.{_≡_, sym, _∙_}
-use mathlib.Core.List.{List, _++_}
+use Prim.Native.Nat.{ℕ, _*_, _≤_}
+use mathlib.Core.Path.{_≡_, sym, ap, _∙_}
+use mathlib.Core.Bool.{true, false, cond, true≢false}
+use mathlib.Core.List.{List}
 use native.Mathlib.Omega.{arith}
-use lib.ListN.{length, take, drop}
-use lib.Seq.{length-take-le, length-front}
+use lib.ListN.{length}
+use Rattle.rows.specs.Rows.{Yard, rowCount, Fresh}
 use Rattle.blocks.specs.State.{State}
-use Rattle.blocks.specs.Position.{Problem}
-use Rattle.blocks.specs.Tests.{measure}
+use Rattle.blocks.specs.Position.{Problem, Accepted}
+use Rattle.blocks.specs.Tests.{measure, perchedᵇ, waitingᵇ}
 use Rattle.blocks.specs.Method.{plan, iterate}
 use Rattle.blocks.proofs.MeasureLaws.{measure-le, misplaced-le}
-use Rattle.problem.specs.Known.{Zeros}
+use Rattle.problem.specs.Checked.{Examines}
+use Rattle.problem.specs.declared.Checked.{Checked}
+use Rattle.statuses.specs.Modes.{stepOf, walksᵇ, looseᵇ}
 use Rattle.statuses.specs.Kept.{Kept, Begun}
-use Rattle.statuses.proofs.LooseLaws.{loose-perched}
-use Rattle.choices.specs.Choices.{stepOf}
+use Rattle.statuses.specs.declared.Mode.{Mode}
+use Rattle.choices.specs.Choices.{Visits}
 use Rattle.runs.specs.Runs.{Steppable, Finished}
-use Rattle.runs.specs.Lent.{Roomy, Startable}
 use Rattle.runs.proofs.RunningLaws.{running-end}
 
 -- the measure bounds the moves
@@ -23,78 +25,47 @@ pub twice : {s g : State} → Problem s g → measure s g ≤ 2 * length s
 twice {s} {g} p = omega (arith, measure-le s g (p .initial), misplaced-le s g)
 
 -- a run that has ended gave its plan within the fuel
-pub run-plan : {kind : ℕ} {s g : State} {k₀ : ℕ} {out₀ : List ℕ} {k : ℕ} {t l gl st rd lo bt tp gb hi seen marks out : List ℕ} {f : ℕ}
-    (w : Finished kind s g k₀ out₀ k t l gl st rd lo bt tp gb hi seen marks out) → measure s g ≤ f → iterate (stepOf kind g) f s ≡ plan (w .ran .moves)
+pub run-plan : {m : Mode} {s g : State} {k₀ : ℕ} {out₀ : List ℕ} {k : ℕ} {t : State} {y z : Yard} {out : List ℕ} {f : ℕ}
+    (w : Finished m s g k₀ out₀ k t y z out) → measure s g ≤ f → iterate (stepOf m g) f s ≡ plan (w .ran .moves)
 run-plan {f = f} w h = running-end (record { end = w .ran .end; reached = w .ran .reached }) (w .ended) f (omega (arith, w .ran .spent, h))
 
--- the first run can begin
-module _ {kind : ℕ} {s g : State} {cur l gl st rd lo bt tp gb hi seen marks : List ℕ} (w : Startable s g cur l gl st rd lo bt tp gb hi seen marks)
-    {cur₁ st₁ rd₁ lo₁ bt₁ tp₁ gb₁ hi₁ : List ℕ} (b : Begun kind s g cur₁ l gl st₁ rd₁ lo₁ bt₁ tp₁ gb₁ hi₁) where
-  pub first-steppable : {marks₁ out : List ℕ} → Zeros marks₁ → length marks₁ ≡ length marks → 4 * length s ≤ length out
-      → Steppable kind cur₁ g l gl st₁ rd₁ lo₁ bt₁ tp₁ gb₁ hi₁ seen marks₁ out 0
-  first-steppable z e room =
-      let small = w .begin .problem .small in
-      let short = twice (w .begin .problem .problem) in
-      rw (b .state) (record {
-        kept = b .kept;
-        visits =
-            record {
-              marked = λ y. omega (arith, z .at y);
-              seen-room = omega (arith, small, w .seen-room);
-              mark-room = omega (arith, small, e, w .mark-room);
-            };
-        room = omega (arith, short, room);
-        count = omega (arith, small, short);
-      })
+-- ---- the first run
 
--- ---- a list just long enough for the state
+-- an accepted problem as the check leaves it; no loop has been walked
+pub first-steppable : {m : Mode} {s g t : State} {y y₁ z : Yard} {out : List ℕ} → Accepted s g → Visits y 0 → Begun m s g t y y₁ z → 4 * length s ≤ length out
+    → Steppable m t g y₁ z out 0
+first-steppable p v b room =
+    let short = twice (p .problem) in
+    rw (b .state) (record {
+      kept = b .kept;
+      visits = record { visited = rw (b .within .above 8 (omega arith)) (v .visited) };
+      room = omega (arith, short, room);
+      count = omega (arith, p .small, short);
+    })
 
-module _ {s g : State} {cur l gl st rd lo bt tp gb hi seen marks : List ℕ} (w : Roomy s g cur l gl st rd lo bt tp gb hi seen marks) where
-  pub state-within : length s ≤ length cur
-  state-within = omega (arith, w .problem .small, w .state-room)
+-- the check of blank rows leaves the others blank
+pub unvisited : {s g : State} {c : Checked} {y y′ : Yard} → Fresh rowCount y → Examines s g c y y′ → Visits y′ 0
+unvisited f w = record { visited = λ b. rw (w .within .above 8 (omega arith)) (omega (arith, f .blank 8 (omega arith) .zeros .at b)) }
 
-  pub part-length : length s ≡ length (take (length s) cur)
-  part-length = sym (length-take-le (length s) cur state-within)
+-- ---- runs that do not walk the loop keep the same beside the state
 
-  pub startable : Startable s g (take (length s) cur) l gl st rd lo bt tp gb hi seen marks
-  startable =
-      record {
-        begin =
-            record {
-              problem = w .problem;
-              state-size = sym part-length;
-              loads = w .loads;
-              goal-loads = w .goal-loads;
-              standings = w .standings;
-              ready-size = w .ready-size;
-              loose-size = w .loose-size;
-              bottom-room = w .bottom-room;
-              top-room = w .top-room;
-              root-room = w .root-room;
-              high-room = w .high-room;
-            };
-        seen-room = w .seen-room;
-        mark-room = w .mark-room;
-      }
-
-  -- what is written over the part leaves the whole as long as it was
-  pub whole-length : (t : List ℕ) → length t ≡ length (take (length s) cur) → length (t ++ drop (length s) cur) ≡ length cur
-  whole-length t e = length-front cur t (length s) e
-
--- ---- kinds below 3 keep the same beside the state
-
-module _ {i j : ℕ} (low : i < 3) (low′ : j < 3) {s g : State} {l gl st rd lo bt tp gb hi : List ℕ} where
-  kept-low : Kept i s g l gl st rd lo bt tp gb hi → Kept j s g l gl st rd lo bt tp gb hi
-  kept-low w =
+module _ {i j : Mode} (flat : walksᵇ i ≡ false) (flat′ : walksᵇ j ≡ false) {s g : State} {y z : Yard} where
+  kept-flat : Kept i s g y z → Kept j s g y z
+  kept-flat w =
       record {
         known = w .known;
-        goal-loads = w .goal-loads;
-        sets = record {
-          ready = w .sets .ready;
-          loose = record { valid = w .sets .loose .valid; same = λ b h. w .sets .loose .same b h ∙ loose-perched s g b low ∙ sym (loose-perched s g b low′) };
-        };
-        towers = λ deep. absurd (omega (arith, deep, low′));
+        sets =
+            record {
+              sized = w .sets .sized;
+              ready = w .sets .ready;
+              loose =
+                  record {
+                    valid = w .sets .loose .valid;
+                    same = λ b h. w .sets .loose .same b h ∙ ap (λ t. cond t (waitingᵇ s g b) (perchedᵇ s g b)) (flat ∙ sym flat′);
+                  };
+            };
+        towers = λ deep. absurd (true≢false (sym deep ∙ flat′));
       }
 
-  pub steps-low : {seen marks out : List ℕ} {k : ℕ} → Steppable i s g l gl st rd lo bt tp gb hi seen marks out k → Steppable j s g l gl st rd lo bt tp gb hi seen marks out k
-  steps-low w = record { kept = kept-low (w .kept); visits = w .visits; room = w .room; count = w .count }
+  pub steps-flat : {out : List ℕ} {k : ℕ} → Steppable i s g y z out k → Steppable j s g y z out k
+  steps-flat w = record { kept = kept-flat (w .kept); visits = w .visits; room = w .room; count = w .count }

@@ -9,17 +9,20 @@ use lib.Seq.{length-sets}
 use Rattle.blocks.specs.State.{State}
 use Rattle.blocks.specs.Move.{_⟶_}
 use Rattle.blocks.specs.Tests.{measure}
+use Rattle.blocks.specs.Method.{precede, iterate}
 use Rattle.blocks.specs.Answer.{flat}
 use Rattle.blocks.proofs.StepLaws.{moves-measure}
 use Rattle.blocks.proofs.FlatLaws.{length-flat}
+use Rattle.rows.specs.Rows.{Yard}
 use Rattle.runs.specs.Runs.{Steppable, Stepped, Ran, Finished}
-use Rattle.choices.specs.Choices.{stepOf}
+use Rattle.statuses.specs.Modes.{stepOf}
+use Rattle.statuses.specs.declared.Mode.{Mode}
 use Rattle.runs.proofs.RunningLaws.{running-begin, running-next, pair-written}
 
-pub ran-begin : (kind : ℕ) {s g : State} {l gl st rd lo bt tp gb hi seen marks out : List ℕ} {k : ℕ} → Steppable kind s g l gl st rd lo bt tp gb hi seen marks out k
-    → Ran kind s g k out k s l gl st rd lo bt tp gb hi seen marks out
-ran-begin kind {s} {g} {k = k} w =
-    let r = running-begin (stepOf kind g) s in
+pub ran-begin : (m : Mode) {s g : State} {y z : Yard} {out : List ℕ} {k : ℕ} → Steppable m s g y z out k
+    → Ran m s g k out k s y z out
+ran-begin m {s} {g} {k = k} w =
+    let r = running-begin (stepOf m g) s in
     record {
       moves = [];
       end = r .end;
@@ -31,10 +34,10 @@ ran-begin kind {s} {g} {k = k} w =
       visits = w .visits;
     }
 
-module _ {kind : ℕ} {s g : State} {k₀ : ℕ} {out₀ : List ℕ} {k : ℕ} {t l gl st rd lo bt tp gb hi seen marks out : List ℕ}
+module _ {m : Mode} {s g : State} {k₀ : ℕ} {out₀ : List ℕ} {k : ℕ} {t : State} {y z : Yard} {out : List ℕ}
     (room : 2 * k₀ + 2 * measure s g ≤ length out₀) (small : k₀ + measure s g < 65535)
-    (w : Ran kind s g k₀ out₀ k t l gl st rd lo bt tp gb hi seen marks out) where
-  pub ran-steppable : Steppable kind t g l gl st rd lo bt tp gb hi seen marks out k
+    (w : Ran m s g k₀ out₀ k t y z out) where
+  pub ran-steppable : Steppable m t g y z out k
   ran-steppable =
       record {
         kept = w .kept;
@@ -43,48 +46,43 @@ module _ {kind : ℕ} {s g : State} {k₀ : ℕ} {out₀ : List ℕ} {k : ℕ} {
         count = omega (arith, small, w .count, w .spent);
       }
 
-  module _ {r : ℕ} {t′ l′ st′ rd′ lo′ bt′ tp′ hi′ seen′ marks′ out′ : List ℕ}
-      (q : Stepped kind t g out k r t′ l′ gl st′ rd′ lo′ bt′ tp′ gb hi′ seen′ marks′ out′) where
-    pub ran-next : r ≢ 0 → Ran kind s g k₀ out₀ (k + 1) t′ l′ gl st′ rd′ lo′ bt′ tp′ gb hi′ seen′ marks′ out′
+  module _ {r : ℕ} {t′ : State} {y′ z′ : Yard} {out′ : List ℕ}
+      (q : Stepped m t g out k r t′ y′ z′ out′) where
+    pub ran-next : r ≢ 0 → Ran m s g k₀ out₀ (k + 1) t′ y′ z′ out′
     ran-next n =
-        let m = q .moved n in
-        let x = m .0 in
-        let more = running-next (record { end = w .end; reached = w .reached }) (m .1) in
+        let d = q .moved n in
+        let x = d .0 in
+        let more = running-next (record { end = w .end; reached = w .reached }) (d .1) in
         let long : length (w .moves ++ ((r ⟶ x) ∷ [])) ≡ length (w .moves) + 1 = length-append (w .moves) ((r ⟶ x) ∷ []) in
         let at : 2 * k ≡ 2 * k₀ + length (flat (w .moves)) = omega (arith, w .count, length-flat (w .moves)) in
         record {
           moves = w .moves ++ ((r ⟶ x) ∷ []);
-          end = m .2 ∙ more .end;
-          reached = λ j. more .reached j ∙ ap (λ u. Rattle.blocks.specs.Method.precede (w .moves ++ ((r ⟶ x) ∷ [])) (Rattle.blocks.specs.Method.iterate (stepOf kind g) j u)) (sym (m .2));
+          end = d .2 ∙ more .end;
+          reached = λ j. more .reached j ∙ ap (λ u. precede (w .moves ++ ((r ⟶ x) ∷ [])) (iterate (stepOf m g) j u)) (sym (d .2));
           count = omega (arith, w .count, long);
-          written = m .3 ∙ ap (λ o. set (set o (2 * k) r) (2 * k + 1) x) (w .written) ∙ pair-written out₀ (2 * k₀) (2 * k) (w .moves) r x at;
-          spent = omega (arith, long, w .spent, moves-measure (w .kept .known .problem) (m .4), ap (λ u. measure u g) (m .2));
+          written = d .3 ∙ ap (λ o. set (set o (2 * k) r) (2 * k + 1) x) (w .written) ∙ pair-written out₀ (2 * k₀) (2 * k) (w .moves) r x at;
+          spent = omega (arith, long, w .spent, moves-measure (w .kept .known .problem) (d .4), ap (λ u. measure u g) (d .2));
           kept = q .kept;
-          visits =
-              record {
-                marked = λ b. omega (arith, q .visits .marked b);
-                seen-room = q .visits .seen-room;
-                mark-room = q .visits .mark-room;
-              };
+          visits = record { visited = λ b. omega (arith, q .visits .visited b) };
         }
 
     pub ran-falls : r ≢ 0 → measure t′ g < measure t g
-    ran-falls n = let m = q .moved n in omega (arith, moves-measure (w .kept .known .problem) (m .4), ap (λ u. measure u g) (m .2))
+    ran-falls n = let d = q .moved n in omega (arith, moves-measure (w .kept .known .problem) (d .4), ap (λ u. measure u g) (d .2))
 
-    pub ran-end : r ≡ 0 → Finished kind s g k₀ out₀ k t′ l′ gl st′ rd′ lo′ bt′ tp′ gb hi′ seen′ marks′ out′
+    pub ran-end : r ≡ 0 → Finished m s g k₀ out₀ k t′ y′ z′ out′
     ran-end z =
-        let m = q .stopped z in
+        let d = q .stopped z in
         record {
           ran =
               record {
                 moves = w .moves;
-                end = m .1 ∙ w .end;
-                reached = λ j. w .reached j ∙ ap (λ u. Rattle.blocks.specs.Method.precede (w .moves) (Rattle.blocks.specs.Method.iterate (stepOf kind g) j u)) (sym (m .1));
+                end = d .1 ∙ w .end;
+                reached = λ j. w .reached j ∙ ap (λ u. precede (w .moves) (iterate (stepOf m g) j u)) (sym (d .1));
                 count = w .count;
-                written = m .2 ∙ w .written;
-                spent = omega (arith, w .spent, ap (λ u. measure u g) (m .1));
+                written = d .2 ∙ w .written;
+                spent = omega (arith, w .spent, ap (λ u. measure u g) (d .1));
                 kept = q .kept;
-                visits = m .3;
+                visits = d .3;
               };
-          ended = ap (stepOf kind g) (m .1) ∙ m .0;
+          ended = ap (stepOf m g) (d .1) ∙ d .0;
         }

@@ -5,41 +5,44 @@ use mathlib.Core.Logic.{_≢_}
 use mathlib.Core.List.{List}
 use lib.ListN.{length, set}
 use lib.Seq.{sets}
+use Rattle.rows.specs.Rows.{Yard}
 use Rattle.blocks.specs.State.{State, put}
 use Rattle.blocks.specs.Move.{Plan, after}
 use Rattle.blocks.specs.Stall.{Moves}
 use Rattle.blocks.specs.Tests.{measure}
 use Rattle.blocks.specs.Method.{stop, go, precede, iterate}
 use Rattle.blocks.specs.Answer.{flat}
+use Rattle.statuses.specs.Modes.{stepOf}
 use Rattle.statuses.specs.Kept.{Kept}
-use Rattle.choices.specs.Choices.{stepOf, Marks}
+use Rattle.statuses.specs.declared.Mode.{Mode}
+use Rattle.choices.specs.Choices.{Visits}
 
 -- One step of a run can be made: there is room for all pairs that the measure still allows.
-pub record Steppable (kind : ℕ) (s g : State) (l gl st rd lo bt tp gb hi seen marks out : List ℕ) (k : ℕ) : Type 0 where
-  pub kept : Kept kind s g l gl st rd lo bt tp gb hi
-  pub visits : Marks s seen marks k
+pub record Steppable (m : Mode) (s g : State) (y z : Yard) (out : List ℕ) (k : ℕ) : Type 0 where
+  pub kept : Kept m s g y z
+  pub visits : Visits y k
   pub room : 2 * k + 2 * measure s g ≤ length out
   pub count : k + measure s g < 65535
 
 -- The step: none, with nothing changed, or a move, written as the k-th pair.
-pub record Stepped (kind : ℕ) (s g : State) (out : List ℕ) (k r : ℕ) (t l gl st rd lo bt tp gb hi seen marks out′ : List ℕ) : Type 0 where
-  pub kept : Kept kind t g l gl st rd lo bt tp gb hi
-  pub visits : Marks t seen marks (suc k)
-  pub stopped : r ≡ 0 → (stepOf kind g s ≡ stop) × (t ≡ s) × (out′ ≡ out) × Marks t seen marks k
-  pub moved : r ≢ 0 → (x : ℕ) × (stepOf kind g s ≡ go r x) × (t ≡ put s r x) × (out′ ≡ set (set out (2 * k) r) (2 * k + 1) x) × Moves s g r x
+pub record Stepped (m : Mode) (s g : State) (out : List ℕ) (k r : ℕ) (t : State) (y z : Yard) (out′ : List ℕ) : Type 0 where
+  pub kept : Kept m t g y z
+  pub visits : Visits y (suc k)
+  pub stopped : r ≡ 0 → (stepOf m g s ≡ stop) × (t ≡ s) × (out′ ≡ out) × Visits y k
+  pub moved : r ≢ 0 → (x : ℕ) × (stepOf m g s ≡ go r x) × (t ≡ put s r x) × (out′ ≡ set (set out (2 * k) r) (2 * k + 1) x) × Moves s g r x
 
 -- A run from s, with k₀ pairs written before it: the moves made so far, the state reached, and what is left of the measure.
-pub record Ran (kind : ℕ) (s g : State) (k₀ : ℕ) (out₀ : List ℕ) (k : ℕ) (t l gl st rd lo bt tp gb hi seen marks out : List ℕ) : Type 0 where
+pub record Ran (m : Mode) (s g : State) (k₀ : ℕ) (out₀ : List ℕ) (k : ℕ) (t : State) (y z : Yard) (out : List ℕ) : Type 0 where
   pub moves : Plan
   pub end : t ≡ after s moves
-  pub reached : (j : ℕ) → iterate (stepOf kind g) (length moves + j) s ≡ precede moves (iterate (stepOf kind g) j t)
+  pub reached : (j : ℕ) → iterate (stepOf m g) (length moves + j) s ≡ precede moves (iterate (stepOf m g) j t)
   pub count : k ≡ k₀ + length moves
   pub written : out ≡ sets out₀ (2 * k₀) (flat moves)
   pub spent : length moves + measure t g ≤ measure s g
-  pub kept : Kept kind t g l gl st rd lo bt tp gb hi
-  pub visits : Marks t seen marks k
+  pub kept : Kept m t g y z
+  pub visits : Visits y k
 
 -- A run that has ended.
-pub record Finished (kind : ℕ) (s g : State) (k₀ : ℕ) (out₀ : List ℕ) (k : ℕ) (t l gl st rd lo bt tp gb hi seen marks out : List ℕ) : Type 0 where
-  pub ran : Ran kind s g k₀ out₀ k t l gl st rd lo bt tp gb hi seen marks out
-  pub ended : stepOf kind g t ≡ stop
+pub record Finished (m : Mode) (s g : State) (k₀ : ℕ) (out₀ : List ℕ) (k : ℕ) (t : State) (y z : Yard) (out : List ℕ) : Type 0 where
+  pub ran : Ran m s g k₀ out₀ k t y z out
+  pub ended : stepOf m g t ≡ stop

@@ -3,49 +3,26 @@ ghost use mathlib.Core.Path.{_≡_};
 ghost use Prim.Native.Nat.{_+_, _*_, _<_};
 ghost use lib.ListN.{length, set};
 ghost use Rattle.runs.specs.Runs.{Steppable, Stepped, Finished};
+use rows::Yard;
+use statuses::Mode;
+use statuses::Sets;
 
 // Makes the moves of a run, one after the other, and writes them from the k-th pair on; answers the count of pairs then written.
 pub fn run(
-    kind: usize,
+    mode: Mode,
     cur: &mut [u16],
     goal: &[u16],
-    load: &mut [u16],
-    wanted: &[u16],
-    stands: &mut [u16],
-    ready: &mut [u64],
-    loose: &mut [u64],
-    bottoms: &mut [u16],
-    tops: &mut [u16],
-    roots: &[u16],
-    highs: &mut [u16],
-    seen: &mut [u16],
-    marks: &mut [u16],
+    yard: &mut Yard,
+    sets: &mut Sets,
     out: &mut [u16],
     k: usize,
 ) -> usize
-    requires { ⌜ Steppable kind (now cur) (now goal) (now load) (now wanted) (now stands) (now ready) (now loose) (now bottoms) (now tops) (now roots) (now highs) (now seen) (now marks) (now out) k ⌝ }
-    ensures { λ r. ⌜ Finished kind (now (cur .entry)) (now (goal .entry)) k (now (out .entry)) r (now (cur .exit)) (now (load .exit)) (now (wanted .entry)) (now (stands .exit)) (now (ready .exit)) (now (loose .exit)) (now (bottoms .exit)) (now (tops .exit)) (now (roots .entry)) (now (highs .exit)) (now (seen .exit)) (now (marks .exit)) (now (out .exit)) ⌝ }
+    requires { ⌜ Steppable mode (now cur) (now goal) (now yard) (now sets) (now out) k ⌝ }
+    ensures { λ r. ⌜ Finished mode (now (cur .entry)) (now (goal .entry)) k (now (out .entry)) r (now (cur .exit)) (now (yard .exit)) (now (sets .exit)) (now (out .exit)) ⌝ }
 {
     let mut count = k;
     loop {
-        let a = step(
-            kind,
-            cur,
-            goal,
-            load,
-            wanted,
-            stands,
-            ready,
-            loose,
-            bottoms,
-            tops,
-            roots,
-            highs,
-            seen,
-            marks,
-            out,
-            count,
-        );
+        let a = step(mode, cur, goal, yard, sets, out, count);
         if a == 0 {
             return count;
         }
@@ -55,64 +32,24 @@ pub fn run(
 
 // One step of a run: the block that was moved, or 0 where the run ends.
 fn step(
-    kind: usize,
+    mode: Mode,
     cur: &mut [u16],
     goal: &[u16],
-    load: &mut [u16],
-    wanted: &[u16],
-    stands: &mut [u16],
-    ready: &mut [u64],
-    loose: &mut [u64],
-    bottoms: &mut [u16],
-    tops: &mut [u16],
-    roots: &[u16],
-    highs: &mut [u16],
-    seen: &mut [u16],
-    marks: &mut [u16],
+    yard: &mut Yard,
+    sets: &mut Sets,
     out: &mut [u16],
     k: usize,
 ) -> usize
-    requires { ⌜ Steppable kind (now cur) (now goal) (now load) (now wanted) (now stands) (now ready) (now loose) (now bottoms) (now tops) (now roots) (now highs) (now seen) (now marks) (now out) k ⌝ }
-    ensures { λ r. ⌜ Stepped kind (now (cur .entry)) (now (goal .entry)) (now (out .entry)) k r (now (cur .exit)) (now (load .exit)) (now (wanted .entry)) (now (stands .exit)) (now (ready .exit)) (now (loose .exit)) (now (bottoms .exit)) (now (tops .exit)) (now (roots .entry)) (now (highs .exit)) (now (seen .exit)) (now (marks .exit)) (now (out .exit)) ⌝ }
+    requires { ⌜ Steppable mode (now cur) (now goal) (now yard) (now sets) (now out) k ⌝ }
+    ensures { λ r. ⌜ Stepped mode (now (cur .entry)) (now (goal .entry)) (now (out .entry)) k r (now (cur .exit)) (now (yard .exit)) (now (sets .exit)) (now (out .exit)) ⌝ }
 {
-    let picked = choices::pick(
-        kind,
-        cur,
-        goal,
-        load,
-        wanted,
-        stands,
-        ready,
-        loose,
-        bottoms,
-        tops,
-        roots,
-        highs,
-        seen,
-        marks,
-        k,
-    );
+    let picked = choices::pick(mode, goal, yard, sets, k);
     let a = picked.block;
     let x = picked.dest;
     if a == 0 {
         return 0;
     }
-    statuses::turn(
-        kind,
-        cur,
-        goal,
-        load,
-        wanted,
-        stands,
-        ready,
-        loose,
-        bottoms,
-        tops,
-        roots,
-        highs,
-        a,
-        x,
-    );
+    statuses::turn(mode, cur, goal, yard, sets, a, x);
     write_pair(out, k, a, x);
     a
 }

@@ -1,30 +1,33 @@
--- The start of a run: the lists of the blocks from an accepted problem, the towers and the sets from these, and all of it together. Assumes nothing.
+-- The start of a run: what is known of the blocks of an accepted problem, the towers and the sets from it, and all of it together. Assumes nothing.
 use Prim.Native.Nat.{ℕ, zero, suc, _≤_, _<_}
 use mathlib.Core.Path.{_≡_, refl, sym, ap, _∙_}
 use mathlib.Core.Logic.{_≢_}
-use mathlib.Core.Bool.{true, not, cond}
+use mathlib.Core.Bool.{Bool, true, false, not, cond, true≢false}
 use mathlib.Core.List.{List}
 use native.Mathlib.Omega.{arith}
 use borrow.Author.Tests.{not-true}
 use lib.Dec.{eqb}
-use lib.ListN.{length, getD, set, length-set}
-use lib.Seq.{getD-set-same, getD-set-other}
+use lib.ListN.{length, getD}
+use Rattle.rows.specs.Rows.{Yard, Within}
+use Rattle.rows.proofs.RowLaws.{within-none, within-then, within-wider, sized-within}
+use Rattle.lists.proofs.ReflectLaws.{from-false, to-true, eqb-reflects, reflects-same}
 use Rattle.blocks.specs.State.{State}
 use Rattle.blocks.specs.Position.{Proper}
 use Rattle.blocks.specs.Tests.{inPositionᵇ}
-use Rattle.blocks.proofs.Reflect.{from-false, to-true, eqb-reflects, reflects-same}
-use Rattle.blocks.proofs.PositionLaws.{position-reflects, position-table}
-use Rattle.problem.specs.Known.{Fillable, Filled, Standings}
-use Rattle.towers.specs.Towers.{Stands, Highs, Climbed}
-use Rattle.towers.specs.Towers as towers
-use Rattle.statuses.specs.Kept.{Sets, Settable, Kept, Traced, Beginnable, Begun}
-use Rattle.statuses.specs.Begins.{Listable, Listed, Towerable, Fittable}
+use Rattle.blocks.proofs.PositionLaws.{position-test, position-table}
+use Rattle.problem.specs.Known.{Standings}
+use Rattle.towers.specs.Towers.{Stands, Fillable, Filled, Climbable, Climbed}
+use Rattle.towers.specs.Linked.{Known}
+use Rattle.statuses.specs.Modes.{walksᵇ}
+use Rattle.statuses.specs.Kept.{Sets, Fittable, Fitted, Kept, Beginnable, Begun}
+use Rattle.statuses.specs.declared.Mode.{Mode}
+use Rattle.statuses.proofs.TestLaws.{table-stands}
 
--- ---- the lists of the blocks
+-- ---- what is known of the blocks
 
--- every block comes down, so it stands 1 or 2; the table is put in position
-stands-from : {s g : State} {st : List ℕ} → Proper s → Standings s g st → Stands s g (set st 0 2)
-stands-from {s} {g} {st} p w = record { room = omega (arith, length-set st 0 2, w .room); at = at }
+-- every block comes down, so it stands 1 or 2
+stands-from : {s g : State} {st : List ℕ} → Proper s → Standings s g st → Stands s g st
+stands-from {s} {g} {st} p w = record { room = w .room; at = at }
   where
     two : (n : ℕ) → n ≢ 0 → n ≤ 2 → n ≡ cond (eqb n 2) 2 1
     two zero m h = absurd (m refl)
@@ -37,104 +40,109 @@ stands-from {s} {g} {st} p w = record { room = omega (arith, length-set st 0 2, 
         let t : not (eqb (getD st b 0) 0) ≡ true = to-true (w .reached b low high) (p .grounded b) in
         from-false (eqb-reflects (getD st b 0) 0) (not-true (eqb (getD st b 0) 0) t) z
 
-    at : (b : ℕ) → b ≤ length s → getD (set st 0 2) b 0 ≡ cond (inPositionᵇ s g b) 2 1
-    at zero high =
-        getD-set-same st 0 2 0 (omega (arith, w .room))
-        ∙ ap (λ t. cond t 2 1) (sym (to-true (position-reflects s g p 0) (position-table s g)))
+    at : (b : ℕ) → b ≤ length s → getD st b 0 ≡ cond (inPositionᵇ s g b) 2 1
+    at zero high = w .table ∙ ap (λ t. cond t 2 1) (sym (to-true (position-test s g p 0) (position-table s g)))
     at (suc i) high =
-        getD-set-other st 0 (suc i) 2 0 (λ q. omega arith)
-        ∙ two (getD st (suc i) 0) (marked (suc i) (omega arith) high) (w .small (suc i) (omega arith) high)
-        ∙ ap (λ t. cond t 2 1) (reflects-same (λ x. x) (λ x. x) (w .right (suc i) (omega arith) high (p .grounded (suc i))) (position-reflects s g p (suc i)))
+        two (getD st (suc i) 0) (marked (suc i) (omega arith) high) (w .small (suc i) (omega arith) high)
+        ∙ ap (λ t. cond t 2 1) (reflects-same (λ x. x) (λ x. x) (w .right (suc i) (omega arith) high (p .grounded (suc i))) (position-test s g p (suc i)))
 
-module _ {s g : State} {cur l st : List ℕ} (w : Listable s g cur l st) where
-  pub listed : {cur′ : List ℕ} → cur′ ≡ s → Listed s g cur′ l (set st 0 2)
-  listed e =
-      let p = w .problem .problem in
-      record { state = e; known = record { small = w .problem .small; problem = p; loads = w .loads; stands = stands-from (p .initial) (w .standings) } }
+pub fittable : {s g : State} {cur cur′ : List ℕ} {y z : Yard} → Beginnable s g cur y z → cur′ ≡ s → Fittable cur′ g y z
+fittable {s} {g} {y = y} {z} w e =
+    let p = w .problem .problem in
+    rw e (record {
+      known =
+          record {
+            small = w .problem .small;
+            problem = p;
+            sized = w .sized;
+            loads = w .start .loads;
+            stands = stands-from (p .initial) (w .start .stands);
+            goal-loads = w .start .goal-loads;
+          };
+      sized = w .sets;
+    })
+
+-- it stays known while only other rows change
+pub known-within : {s g : State} {lo hi : ℕ} {y y′ : Yard} → Known s g y → Within lo hi y y′ → 3 ≤ lo → Known s g y′
+known-within k w h =
+    record {
+      small = k .small;
+      problem = k .problem;
+      sized = sized-within (k .sized) w;
+      loads = rw (w .below 0 (omega arith)) (k .loads);
+      stands = rw (w .below 1 (omega arith)) (k .stands);
+      goal-loads = rw (w .below 2 (omega arith)) (k .goal-loads);
+    }
 
 -- ---- the towers
 
-module _ {s g : State} {l gl st bt tp gb hi : List ℕ} (w : Towerable s g l gl st bt tp gb hi) where
-  pub towers-fillable : towers.Fillable s l bt tp
-  towers-fillable =
-      record {
-        small = w .known .small;
-        proper = w .known .problem .initial;
-        loads = w .known .loads;
-        bottom-room = w .bottom-room;
-        top-room = w .top-room;
-      }
+module _ {s g : State} {y : Yard} (k : Known s g y) where
+  pub unfitted : {m : Mode} {r : Bool} → r ≡ walksᵇ m → not r ≡ true → Fitted m s g y y
+  unfitted {m} {r} e n = record { towers = λ q. absurd (true≢false (sym q ∙ sym e ∙ not-true r n)); within = within-none }
 
-  pub roots-fillable : towers.Fillable g gl gb hi
-  roots-fillable =
-      let same = w .known .problem .same in
-      record {
-        small = omega (arith, same, w .known .small);
-        proper = w .known .problem .goal;
-        loads = w .goal-loads;
-        bottom-room = omega (arith, same, w .root-room);
-        top-room = omega (arith, same, w .high-room);
-      }
+  pub state-fillable : Fillable s y 0 3
+  state-fillable =
+      record { small = k .small; proper = k .problem .initial; known = k .loads; before = omega arith; inside = omega arith; sized = k .sized }
 
-  pub climbed : {gb′ hi′ : List ℕ} → towers.Filled g gb′ hi′ → Climbed s g gl gb′ st hi′
-  climbed f =
-      record {
-        small = w .known .small;
-        problem = w .known .problem;
-        loads = w .goal-loads;
-        bottoms = f .bottoms;
-        stands = w .known .stands;
-        room = omega (arith, w .known .problem .same, f .tops .room);
-      }
+  module _ {y₁ : Yard} (f : Filled s 3 y y₁) where
+    still : Known s g y₁
+    still = known-within k (f .within) (omega arith)
 
-  pub towered : {kind : ℕ} {bt′ tp′ gb′ h hi′ : List ℕ} → towers.Filled s bt′ tp′ → towers.Filled g gb′ h → Highs s g hi′ → Traced kind s g bt′ tp′ gb′ hi′
-  towered e f k = record { towers = λ _. record { bottoms = e .bottoms; tops = e .tops; roots = f .bottoms; highs = k } }
-
--- for the other kinds nothing is asked
-pub untraced : {kind : ℕ} (s g : State) (bt tp gb hi : List ℕ) → kind < 3 → Traced kind s g bt tp gb hi
-untraced s g bt tp gb hi h = record { towers = λ deep. absurd (omega (arith, deep)) }
-
--- ---- what a run keeps beside the blocks
-
-module _ {s g : State} {l gl st rd lo bt tp gb hi : List ℕ} (w : Fittable s g l gl st rd lo bt tp gb hi) where
-  pub towerable : Towerable s g l gl st bt tp gb hi
-  towerable =
-      record {
-        known = w .known;
-        goal-loads = w .goal-loads;
-        bottom-room = w .bottom-room;
-        top-room = w .top-room;
-        root-room = w .root-room;
-        high-room = w .high-room;
-      }
-
-  pub settable : Settable s g l st rd lo
-  settable = record { known = w .known; ready-size = w .ready-size; loose-size = w .loose-size }
-
-  pub fitted : {kind : ℕ} {rd′ lo′ bt′ tp′ gb′ hi′ : List ℕ} → Traced kind s g bt′ tp′ gb′ hi′ → Sets kind s g rd′ lo′ → Kept kind s g l gl st rd′ lo′ bt′ tp′ gb′ hi′
-  fitted t q = record { known = w .known; goal-loads = w .goal-loads; sets = q; towers = t .towers }
-
--- ---- all
-
-module _ {s g : State} {cur l gl st rd lo bt tp gb hi : List ℕ} (w : Beginnable s g cur l gl st rd lo bt tp gb hi) where
-  pub listable : Listable s g cur l st
-  listable = record { problem = w .problem; state-size = w .state-size; loads = w .loads; standings = w .standings }
-
-  module _ {cur′ st′ : List ℕ} (k : Listed s g cur′ l st′) where
-    pub fittable : Fittable s g l gl st′ rd lo bt tp gb hi
-    fittable =
-        let small = w .problem .small in
+    pub goal-fillable : Fillable g y₁ 2 5
+    goal-fillable =
         record {
-          known = k .known;
-          goal-loads = w .goal-loads;
-          ready-size = w .ready-size;
-          loose-size = w .loose-size;
-          bottom-room = omega (arith, small, w .bottom-room);
-          top-room = omega (arith, small, w .top-room);
-          root-room = omega (arith, small, w .root-room);
-          high-room = omega (arith, small, w .high-room);
+          small = omega (arith, k .small, k .problem .same);
+          proper = k .problem .goal;
+          known = still .goal-loads;
+          before = omega arith;
+          inside = omega arith;
+          sized = still .sized;
         }
 
-    pub begun : {kind : ℕ} {rd′ lo′ bt′ tp′ gb′ hi′ : List ℕ} → Kept kind s g l gl st′ rd′ lo′ bt′ tp′ gb′ hi′
-        → Begun kind s g cur′ l gl st′ rd′ lo′ bt′ tp′ gb′ hi′
-    begun q = record { state = k .state; kept = q }
+    module _ {y₂ : Yard} (h : Filled g 5 y₁ y₂) where
+      again : Known s g y₂
+      again = known-within still (h .within) (omega arith)
+
+      pub climbable : Climbable g y₂
+      climbable =
+          record {
+            small = omega (arith, k .small, k .problem .same);
+            proper = k .problem .goal;
+            sized = again .sized;
+            goal-loads = again .goal-loads;
+            goal-bottoms = h .bottom;
+            room = omega (arith, again .stands .room, k .problem .same);
+            table = table-stands again;
+          }
+
+      pub fitted : {m : Mode} {y₃ : Yard} → Climbed g y₂ y₃ → Fitted m s g y y₃
+      fitted c =
+          record {
+            towers = λ _.
+                record {
+                  bottoms = rw (c .within .below 3 (omega arith), h .within .below 3 (omega arith)) (f .bottom);
+                  tops = rw (c .within .below 4 (omega arith), h .within .below 4 (omega arith)) (f .top);
+                  goal-bottoms = rw (c .within .below 5 (omega arith)) (h .bottom);
+                  highs = c .highs s (k .problem) (again .stands);
+                };
+            within =
+                within-then (within-wider (f .within) (omega arith) (omega arith))
+                (within-then (within-wider (h .within) (omega arith) (omega arith)) (within-wider (c .within) (omega arith) (omega arith)));
+          }
+
+-- ---- what a run keeps beside the blocks, and all
+
+module _ {m : Mode} {s g : State} {y z y₁ : Yard} (w : Fittable s g y z) (f : Fitted m s g y y₁) where
+  pub refittable : Fittable s g y₁ z
+  refittable = record { known = known-within (w .known) (f .within) (omega arith); sized = w .sized }
+
+  pub kept : {z′ : Yard} → Sets m s g z′ → Begun m s g s y y₁ z′
+  kept q =
+      record {
+        state = refl;
+        kept = record { known = known-within (w .known) (f .within) (omega arith); sets = q; towers = f .towers };
+        within = f .within;
+      }
+
+pub begun : {m : Mode} {s g t : State} {y y₁ z : Yard} → t ≡ s → Begun m t g t y y₁ z → Begun m s g t y y₁ z
+begun {m} {s} {g} {t} {y} {y₁} {z} e q = record { state = e; kept = rw e at (q .kept); within = q .within }

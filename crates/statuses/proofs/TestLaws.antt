@@ -1,144 +1,204 @@
--- The three tests of a block, decided from how the blocks stand and from what rests on each. Assumes nothing.
-use Prim.Native.Nat.{ℕ, _-_, _*_, _≤_, _<_}
-use mathlib.Core.Path.{_≡_, refl, sym, ap, _∙_}
+-- The tests of a block, as the code decides them from the rows and as the definitions say. Assumes nothing.
+use Prim.Native.Nat.{ℕ, zero, suc, _-_, _≤_, _<_}
+use mathlib.Core.Path.{_≡_, refl, sym, ap, ap₂, _∙_}
 use mathlib.Core.Logic.{_⊎_, inl, inr, _≢_}
-use mathlib.Core.Bool.{Bool, true, false, not, _&&_, _||_, cond}
-use mathlib.Core.List.{List}
+use mathlib.Core.Bool.{Bool, true, false, not, _&&_, _||_, cond, and-comm}
 use native.Mathlib.Omega.{arith}
 use lib.Dec.{eqb}
 use lib.ListN.{length, getD}
-use borrow.Author.Tests.{eq-eqb, ne-eqb, not-true, not-false}
-use mir.Syntax.{w64}
-use mir.Val.{Fits}
-use Rattle.blocks.specs.State.{State, Block, support}
+use borrow.Author.Tests.{eq-eqb, ne-eqb, eqb-true, not-true, not-false}
+use Rattle.rows.specs.Rows.{Yard, loadsOf, standsOf, rowSize}
+use Rattle.lists.proofs.ReflectLaws.{same?, to-true}
+use Rattle.blocks.specs.State.{State, support}
 use Rattle.blocks.specs.Tests.{load, clearᵇ, inPositionᵇ, misplacedᵇ, waitingᵇ, perchedᵇ, readyᵇ}
-use Rattle.blocks.proofs.Reflect.{from-true, from-false, same?}
 use Rattle.blocks.proofs.StateLaws.{support-at}
-use Rattle.blocks.proofs.PositionLaws.{position-reflects, waiting-reflects, misplaced-block}
-use Rattle.statuses.specs.Kept.{Known, Testable}
+use Rattle.blocks.proofs.PositionLaws.{position-test, position-table}
+use Rattle.towers.specs.Linked.{Known}
+use Rattle.statuses.specs.Modes.{walksᵇ, looseᵇ}
+use Rattle.statuses.specs.Reads.{Readable, waitsIn, perchedIn, targetIn, readyIn, looseIn}
+use Rattle.statuses.specs.declared.Mode.{Mode}
+
+-- ---- the code
+
+pub waits-not : (y : Yard) (b : ℕ) → getD (standsOf y) b 0 ≢ 1 → false ≡ waitsIn y b
+unfolding waitsIn
+waits-not y b n = ap (λ t. t && eqb (getD (loadsOf y) b 0) 0) (sym (ne-eqb (getD (standsOf y) b 0) 1 n))
+
+pub waits-at : (y : Yard) (b : ℕ) → getD (standsOf y) b 0 ≡ 1 → eqb (getD (loadsOf y) b 0) 0 ≡ waitsIn y b
+unfolding waitsIn
+waits-at y b e = ap (λ t. t && eqb (getD (loadsOf y) b 0) 0) (sym (eq-eqb (getD (standsOf y) b 0) 1 e))
+
+-- the table stands in position, so what waits is a block
+waits-block : (y : Yard) (b : ℕ) → getD (standsOf y) 0 0 ≡ 2 → waitsIn y b ≡ true → 1 ≤ b
+unfolding waitsIn
+waits-block y b table e = by (same? b 0)
+  where
+    by : (b ≡ 0) ⊎ (¬ (b ≡ 0)) → 1 ≤ b
+    by (inr n) = omega (arith, n)
+    by (inl z) =
+        let off : eqb (getD (standsOf y) b 0) 1 ≡ false = ne-eqb (getD (standsOf y) b 0) 1 (λ q. omega (arith, ap (λ k. getD (standsOf y) k 0) (sym z) ∙ q)) in
+        let clash : _≡_ {A = Bool} false true = ap (λ t. t && eqb (getD (loadsOf y) b 0) 0) (sym off) ∙ e in
+        absurd (mathlib.Core.Bool.false≢true clash)
+
+module _ {s : State} {y : Yard} {b : ℕ} (w : Readable s y b) where
+  pub read-in : b < rowSize
+  read-in = omega (arith, w .high, w .small)
+
+  -- r is what the test for waiting answered
+  module _ {r : Bool} (e : r ≡ waitsIn y b) where
+    pub perched-not : not r ≡ true → false ≡ perchedIn s y b
+    unfolding perchedIn
+    perched-not n = ap (λ t. t && not (eqb (getD s (b - 1) 0) 0)) (sym (not-true r n) ∙ e)
+
+    pub ready-not : not r ≡ true → false ≡ readyIn s y b
+    unfolding readyIn
+    ready-not n = ap (λ t. t && targetIn y (getD s (b - 1) 0)) (sym (not-true r n) ∙ e)
+
+    module _ (n : not r ≡ false) where
+      waits : waitsIn y b ≡ true
+      waits = sym e ∙ not-false r n
+
+      pub block-low : 1 ≤ b
+      block-low = waits-block y b (w .table) waits
+
+      pub entry-within : b - 1 < length s
+      entry-within = omega (arith, block-low, w .high)
+
+      pub perched-at : not (eqb (getD s (b - 1) 0) 0) ≡ perchedIn s y b
+      unfolding perchedIn
+      perched-at = ap (λ t. t && not (eqb (getD s (b - 1) 0) 0)) (sym waits)
+
+      -- x is what was read as b's support
+      module _ {x : ℕ} (f : x ≡ getD s (b - 1) 0) where
+        pub target-in : x < rowSize
+        target-in = omega (arith, f, w .entries (b - 1), w .small)
+
+        pub target-load : x < length (loadsOf y)
+        target-load = omega (arith, f, w .entries (b - 1), w .small, w .sized .rooms 0 (omega arith))
+
+        pub target-off : getD (standsOf y) x 0 ≢ 2 → false ≡ readyIn s y b
+        unfolding readyIn targetIn
+        target-off m =
+            ap (λ t. t && not (not (eqb x 0) && not (eqb (getD (loadsOf y) x 0) 0))) (sym (ne-eqb (getD (standsOf y) x 0) 2 m))
+            ∙ ap (targetIn y) f
+            ∙ ap (λ t. t && targetIn y (getD s (b - 1) 0)) (sym waits)
+
+        pub target-at : {t : Bool} → t ≡ (not (eqb x 0) && not (eqb (getD (loadsOf y) x 0) 0)) → getD (standsOf y) x 0 ≡ 2 → not t ≡ readyIn s y b
+        unfolding readyIn targetIn
+        target-at {t} h m =
+            ap not h
+            ∙ ap (λ u. u && not (not (eqb x 0) && not (eqb (getD (loadsOf y) x 0) 0))) (sym (eq-eqb (getD (standsOf y) x 0) 2 m))
+            ∙ ap (targetIn y) f
+            ∙ ap (λ u. u && targetIn y (getD s (b - 1) 0)) (sym waits)
+
+-- r is whether the run walks the loop, and t what the other test answered
+module _ {r t : Bool} (k : Mode) (s : State) (y : Yard) (b : ℕ) (e : r ≡ walksᵇ k) where
+  pub loose-off : not r ≡ true → t ≡ perchedIn s y b → t ≡ looseIn k s y b
+  unfolding looseIn
+  loose-off n h = h ∙ ap (λ u. cond u (waitsIn y b) (perchedIn s y b)) (sym (not-true r n) ∙ e)
+
+  pub loose-on : not r ≡ false → t ≡ waitsIn y b → t ≡ looseIn k s y b
+  unfolding looseIn
+  loose-on n h = h ∙ ap (λ u. cond u (waitsIn y b) (perchedIn s y b)) (sym (not-false r n) ∙ e)
+
+-- the block that goes onto u
+pub onto-table : {u : ℕ} (x : ℕ) → u ≡ 0 → 0 ≡ cond (eqb u 0) 0 x
+onto-table {u} x e = rw (eq-eqb u 0 e)
+
+pub onto-block : {u r x : ℕ} → u ≢ 0 → r ≡ x → r ≡ cond (eqb u 0) 0 x
+onto-block {u} n e = rw (ne-eqb u 0 n) e
+
+-- ---- the definitions
 
 not-and : (t u : Bool) → not (not t && not u) ≡ (t || u)
 not-and true u = refl
 not-and false true = refl
 not-and false false = refl
 
-and-true : (t : Bool) → (t && true) ≡ t
-and-true true = refl
-and-true false = refl
-
-and-false : (t : Bool) → (t && false) ≡ false
-and-false true = refl
-and-false false = refl
-
-module _ {s g : State} {l st : List ℕ} (k : Known s g l st) (b : ℕ) (high : b ≤ length s) where
-  -- what does not stand 2 is misplaced, what does not stand 1 is in position
-  misplaced-at : getD st b 0 ≢ 2 → inPositionᵇ s g b ≡ false
-  misplaced-at n = by (inPositionᵇ s g b) (k .stands .at b high)
+module _ {s g : State} {y : Yard} (k : Known s g y) (b : ℕ) (high : b ≤ length s) where
+  -- what stands 2 is in position, what stands 1 is misplaced, and nothing stands otherwise
+  two-is : eqb (getD (standsOf y) b 0) 2 ≡ inPositionᵇ s g b
+  two-is = ap (λ x. eqb x 2) (k .stands .at b high) ∙ by (inPositionᵇ s g b)
     where
-      by : (t : Bool) → getD st b 0 ≡ cond t 2 1 → t ≡ false
-      by true f = absurd (n f)
-      by false f = refl
+      by : (t : Bool) → eqb (cond t 2 1) 2 ≡ t
+      by true = refl
+      by false = refl
 
-  position-at : getD st b 0 ≢ 1 → inPositionᵇ s g b ≡ true
-  position-at n = by (inPositionᵇ s g b) (k .stands .at b high)
+  one-is : eqb (getD (standsOf y) b 0) 1 ≡ misplacedᵇ s g b
+  unfolding misplacedᵇ
+  one-is = ap (λ x. eqb x 1) (k .stands .at b high) ∙ by (inPositionᵇ s g b)
     where
-      by : (t : Bool) → getD st b 0 ≡ cond t 2 1 → t ≡ true
-      by true f = refl
-      by false f = absurd (n f)
+      by : (t : Bool) → eqb (cond t 2 1) 1 ≡ not t
+      by true = refl
+      by false = refl
 
-  -- the test for clear, by the list of loads
-  clear-at : clearᵇ s b ≡ (eqb b 0 || eqb (getD l b 0) 0)
+  -- the test for clear, by the row of loads
+  clear-is : (eqb b 0 || eqb (getD (loadsOf y) b 0) 0) ≡ clearᵇ s b
   unfolding clearᵇ
-  clear-at = by (same? b 0)
+  clear-is = by (same? b 0)
     where
-      by : (b ≡ 0) ⊎ (¬ (b ≡ 0)) → (eqb b 0 || eqb (load s b) 0) ≡ (eqb b 0 || eqb (getD l b 0) 0)
-      by (inl e) = ap (λ t. t || eqb (load s b) 0) (eq-eqb b 0 e) ∙ ap (λ t. t || eqb (getD l b 0) 0) (sym (eq-eqb b 0 e))
-      by (inr n) = ap (λ x. eqb b 0 || eqb x 0) (sym (k .loads .at b (omega (arith, n)) high))
+      by : (b ≡ 0) ⊎ (¬ (b ≡ 0)) → (eqb b 0 || eqb (getD (loadsOf y) b 0) 0) ≡ (eqb b 0 || eqb (load s b) 0)
+      by (inl e) = ap (λ t. t || eqb (getD (loadsOf y) b 0) 0) (eq-eqb b 0 e) ∙ ap (λ t. t || eqb (load s b) 0) (sym (eq-eqb b 0 e))
+      by (inr n) = ap (λ x. eqb b 0 || eqb x 0) (k .loads .at b (omega (arith, n)) high)
 
-module _ {s g : State} {l st : List ℕ} {b : ℕ} (w : Testable s g l st b) where
-  -- ---- waiting
+  target-is : targetIn y b ≡ (clearᵇ s b && inPositionᵇ s g b)
+  unfolding targetIn
+  target-is = ap₂ (λ t u. t && u) two-is (not-and (eqb b 0) (eqb (getD (loadsOf y) b 0) 0) ∙ clear-is) ∙ and-comm (inPositionᵇ s g b) (clearᵇ s b)
 
-  pub not-waiting : getD st b 0 ≢ 1 → false ≡ waitingᵇ s g b
-  unfolding waitingᵇ misplacedᵇ
-  not-waiting n = ap (λ t. not t && clearᵇ s b) (sym (position-at (w .known) b (w .high) n))
+module _ {s g : State} {y : Yard} (k : Known s g y) where
+  pub table-stands : getD (standsOf y) 0 0 ≡ 2
+  table-stands = k .stands .at 0 (omega arith) ∙ ap (λ t. cond t 2 1) (to-true (position-test s g (k .problem .initial) 0) (position-table s g))
 
-  pub waiting-at : getD st b 0 ≡ 1 → eqb (getD l b 0) 0 ≡ waitingᵇ s g b
-  unfolding waitingᵇ misplacedᵇ
-  waiting-at e =
-      let f : inPositionᵇ s g b ≡ false = misplaced-at (w .known) b (w .high) (λ z. omega arith) in
-      let block : Block s b = misplaced-block (w .known .problem .same) (from-false (position-reflects s g (w .known .problem .initial) b) f) in
-      ap (λ t. t || eqb (getD l b 0) 0) (sym (ne-eqb b 0 (λ z. omega (arith, block .low))))
-      ∙ sym (clear-at (w .known) b (w .high))
-      ∙ ap (λ t. not t && clearᵇ s b) (sym f)
+  pub readable : {b : ℕ} → b ≤ length s → Readable s y b
+  readable h =
+      record { sized = k .sized; small = k .small; high = h; entries = λ i. k .problem .initial .entries (suc i); table = table-stands }
 
-  -- ---- the others, where the test for waiting answered r
+  pub goal-readable : {b : ℕ} → b ≤ length s → Readable g y b
+  goal-readable h =
+      let same = k .problem .same in
+      record {
+        sized = k .sized;
+        small = omega (arith, same, k .small);
+        high = omega (arith, same, h);
+        entries = λ i. k .problem .goal .entries (suc i);
+        table = table-stands;
+      }
 
-  module _ {r : Bool} (e : r ≡ waitingᵇ s g b) where
-    pub not-perched : not r ≡ true → false ≡ perchedᵇ s g b
-    unfolding perchedᵇ
-    not-perched n = ap (λ t. t && not (eqb (support s b) 0)) (sym (not-true r n) ∙ e)
+  table-waits : {b : ℕ} → b ≡ 0 → waitsIn y b ≡ false
+  unfolding waitsIn
+  table-waits {b} z =
+      ap (λ t. t && eqb (getD (loadsOf y) b 0) 0) (ne-eqb (getD (standsOf y) b 0) 1 (λ q. omega (arith, table-stands, ap (λ i. getD (standsOf y) i 0) (sym z) ∙ q)))
 
-    pub not-ready : not r ≡ true → false ≡ readyᵇ s g b
-    unfolding readyᵇ
-    not-ready n = ap (λ t. t && (clearᵇ s (support g b) && inPositionᵇ s g (support g b))) (sym (not-true r n) ∙ e)
+  module _ (b : ℕ) (high : b ≤ length s) where
+    pub waits-is : waitsIn y b ≡ waitingᵇ s g b
+    unfolding waitsIn waitingᵇ
+    waits-is = by (same? b 0)
+      where
+        by : (b ≡ 0) ⊎ (¬ (b ≡ 0)) → (eqb (getD (standsOf y) b 0) 1 && eqb (getD (loadsOf y) b 0) 0) ≡ (misplacedᵇ s g b && clearᵇ s b)
+        by (inl z) =
+            let off : eqb (getD (standsOf y) b 0) 1 ≡ false = ne-eqb (getD (standsOf y) b 0) 1 (λ q. omega (arith, table-stands, ap (λ i. getD (standsOf y) i 0) (sym z) ∙ q)) in
+            ap (λ t. t && eqb (getD (loadsOf y) b 0) 0) off ∙ ap (λ t. t && clearᵇ s b) (sym off ∙ one-is k b high)
+        by (inr n) = ap₂ (λ t u. t && u) (one-is k b high) (ap (λ t. t || eqb (getD (loadsOf y) b 0) 0) (sym (ne-eqb b 0 n)) ∙ clear-is k b high)
 
-    module _ (n : not r ≡ false) where
-      waits : waitingᵇ s g b ≡ true
-      waits = sym e ∙ not-false r n
+    -- the support of a block, and of the table, which does not wait
+    perched-is : perchedIn s y b ≡ perchedᵇ s g b
+    unfolding perchedIn perchedᵇ
+    perched-is = by (same? b 0)
+      where
+        by : (b ≡ 0) ⊎ (¬ (b ≡ 0)) → (waitsIn y b && not (eqb (getD s (b - 1) 0) 0)) ≡ (waitingᵇ s g b && not (eqb (support s b) 0))
+        by (inl z) = let e = table-waits z in ap (λ t. t && not (eqb (getD s (b - 1) 0) 0)) e ∙ ap (λ t. t && not (eqb (support s b) 0)) (sym e ∙ waits-is)
+        by (inr n) = ap₂ (λ t x. t && not (eqb x 0)) waits-is (sym (support-at s b (omega (arith, n))))
 
-      pub block-low : 1 ≤ b
-      block-low = misplaced-block (w .known .problem .same) (from-true (waiting-reflects s g (w .known .problem .initial) b) waits .0) .low
+    pub loose-is : (m : Mode) → looseIn m s y b ≡ looseᵇ m s g b
+    unfolding looseIn
+    loose-is m = ap₂ (λ t u. cond (walksᵇ m) t u) waits-is perched-is
 
-      pub entry-within : b - 1 < length s
-      entry-within = omega (arith, block-low, w .high)
-
-      pub goal-within : b - 1 < length g
-      goal-within = omega (arith, block-low, w .high, w .known .problem .same)
-
-      pub perched-at : not (eqb (getD s (b - 1) 0) 0) ≡ perchedᵇ s g b
-      unfolding perchedᵇ
-      perched-at =
-          ap (λ x. not (eqb x 0)) (sym (support-at s b block-low)) ∙ ap (λ t. t && not (eqb (support s b) 0)) (sym waits)
-
-      -- x is what was read as b's support in the goal
-      module _ {x : ℕ} (f : x ≡ getD g (b - 1) 0) where
-        goal-is : x ≡ support g b
-        goal-is = f ∙ sym (support-at g b block-low)
-
-        goal-high : x ≤ length s
-        goal-high = omega (arith, goal-is, w .known .problem .goal .entries b, w .known .problem .same)
-
-        pub stands-within : x < length st
-        stands-within = omega (arith, goal-high, w .known .stands .room)
-
-        pub stands-scaled : Fits w64 (x * 2)
-        stands-scaled = record { fits = omega (arith, goal-high, w .known .small) }
-
-        pub load-within : x < length l
-        load-within = omega (arith, goal-high, w .known .loads .room)
-
-        ready-is : (clearᵇ s x && inPositionᵇ s g x) ≡ readyᵇ s g b
-        unfolding readyᵇ
-        ready-is =
-            ap (λ y. clearᵇ s y && inPositionᵇ s g y) goal-is
-            ∙ ap (λ t. t && (clearᵇ s (support g b) && inPositionᵇ s g (support g b))) (sym waits)
-
-        pub goal-misplaced : getD st x 0 ≢ 2 → false ≡ readyᵇ s g b
-        goal-misplaced m = sym (and-false (clearᵇ s x)) ∙ ap (λ t. clearᵇ s x && t) (sym (misplaced-at (w .known) x goal-high m)) ∙ ready-is
-
-        pub ready-at : {t : Bool} → t ≡ (not (eqb x 0) && not (eqb (getD l x 0) 0)) → getD st x 0 ≡ 2 → not t ≡ readyᵇ s g b
-        ready-at {t} h m =
-            ap not h
-            ∙ not-and (eqb x 0) (eqb (getD l x 0) 0)
-            ∙ sym (clear-at (w .known) x goal-high)
-            ∙ sym (and-true (clearᵇ s x))
-            ∙ ap (λ u. clearᵇ s x && u) (sym (position-at (w .known) x goal-high (λ z. omega arith)))
-            ∙ ready-is
-
--- ---- the block that goes onto u
-
-pub onto-table : {u : ℕ} (x : ℕ) → u ≡ 0 → 0 ≡ cond (eqb u 0) 0 x
-onto-table {u} x e = rw (eq-eqb u 0 e)
-
-pub onto-block : {u r x : ℕ} → u ≢ 0 → r ≡ x → r ≡ cond (eqb u 0) 0 x
-onto-block {u} n e = rw (ne-eqb u 0 n) e
+    pub ready-is : readyIn g y b ≡ readyᵇ s g b
+    unfolding readyIn readyᵇ
+    ready-is = by (same? b 0)
+      where
+        by : (b ≡ 0) ⊎ (¬ (b ≡ 0)) → (waitsIn y b && targetIn y (getD g (b - 1) 0)) ≡ (waitingᵇ s g b && (clearᵇ s (support g b) && inPositionᵇ s g (support g b)))
+        by (inl z) = let e = table-waits z in ap (λ t. t && targetIn y (getD g (b - 1) 0)) e ∙ ap (λ t. t && (clearᵇ s (support g b) && inPositionᵇ s g (support g b))) (sym e ∙ waits-is)
+        by (inr n) =
+            let high-goal : support g b ≤ length s = omega (arith, k .problem .goal .entries b, k .problem .same) in
+            ap₂ (λ t x. t && targetIn y x) waits-is (sym (support-at g b (omega (arith, n)))) ∙ ap (λ t. waitingᵇ s g b && t) (target-is k (support g b) high-goal)

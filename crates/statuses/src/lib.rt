@@ -5,313 +5,268 @@ ghost use mathlib.Core.Bool.{cond};
 ghost use Prim.Native.Nat.{_<_};
 ghost use lib.Dec.{eqb};
 ghost use lib.ListN.{length, getD};
-ghost use Rattle.blocks.specs.State.{put};
-ghost use Rattle.blocks.specs.Tests.{readyᵇ, perchedᵇ, waitingᵇ};
-ghost use Rattle.statuses.specs.Kept.{looseᵇ, Sets, Testable, Offerable, Admissible, Refreshable, Redone, Refreshed, Moving, Settable, Kept, Traceable, Traced, Turnable, Turned, Beginnable, Begun};
-ghost use Rattle.statuses.specs.Begins.{Listable, Listed, Towerable, Fittable};
+ghost use Rattle.rows.specs.Rows.{goalLoadsOf, rowSize, rowCount};
+ghost use Rattle.numberset.specs.Members.{Assigned};
+ghost use Rattle.towers.specs.Linked.{Known};
+ghost use Rattle.statuses.specs.Modes.{buildsᵇ, putsDownᵇ, walksᵇ};
+ghost use Rattle.statuses.specs.Reads.{Readable, waitsIn, perchedIn, readyIn, looseIn};
+ghost use Rattle.statuses.specs.Kept.{Sets, Offerable, Admissible, Refreshable, Refreshed, Moving, Fittable, Fitted, Kept, Traceable, Traced, Turnable, Turned, Beginnable, Begun};
+use numberset::WORDS;
+use rows::BOTTOMS;
+use rows::GOAL_BOTTOMS;
+use rows::GOAL_LOADS;
+use rows::LOADS;
+use rows::STANDS;
+use rows::Yard;
 
-// Everything that a run of a kind keeps beside the initial state, from the loads and how the blocks stand.
+// The sets of a run as rows: the blocks that are ready, and those that are loose.
+pub const READY: usize = 0;
+
+pub const LOOSE: usize = 1;
+
+pub type Sets = [[u64; WORDS]; 2];
+
+// The modes of a run: the first loop of method 1, constructive moves alone (its second loop, and the deadlock test), and methods 2 and 3.
+pub enum Mode {
+    Clearing,
+    Building,
+    Gn1,
+    Gn2,
+}
+
+// Whether a run makes constructive moves.
+pub fn builds(mode: Mode) -> bool
+    ensures { λ r. ⌜ r ≡ buildsᵇ mode ⌝ }
+{
+    match mode {
+        Mode::Clearing => false,
+        Mode::Building => true,
+        Mode::Gn1 => true,
+        Mode::Gn2 => true,
+    }
+}
+
+// Whether a run puts blocks down.
+pub fn puts_down(mode: Mode) -> bool
+    ensures { λ r. ⌜ r ≡ putsDownᵇ mode ⌝ }
+{
+    match mode {
+        Mode::Clearing => true,
+        Mode::Building => false,
+        Mode::Gn1 => true,
+        Mode::Gn2 => true,
+    }
+}
+
+// Whether a run walks the loop: then it keeps the towers, and its loose blocks are all that wait. Else they are the perched ones, and no towers are kept.
+pub fn walks(mode: Mode) -> bool
+    ensures { λ r. ⌜ r ≡ walksᵇ mode ⌝ }
+{
+    match mode {
+        Mode::Clearing => false,
+        Mode::Building => false,
+        Mode::Gn1 => false,
+        Mode::Gn2 => true,
+    }
+}
+
+// Everything that a run keeps beside the initial state, from the loads and how the blocks stand.
 pub fn begin(
-    kind: usize,
+    mode: Mode,
     initial: &[u16],
     goal: &[u16],
     cur: &mut [u16],
-    load: &[u16],
-    wanted: &[u16],
-    stands: &mut [u16],
-    ready: &mut [u64],
-    loose: &mut [u64],
-    bottoms: &mut [u16],
-    tops: &mut [u16],
-    roots: &mut [u16],
-    highs: &mut [u16],
+    yard: &mut Yard,
+    sets: &mut Sets,
 )
-    requires { ⌜ Beginnable (now initial) (now goal) (now cur) (now load) (now wanted) (now stands) (now ready) (now loose) (now bottoms) (now tops) (now roots) (now highs) ⌝ }
-    ensures { λ r. ⌜ Begun kind (now (initial .entry)) (now (goal .entry)) (now (cur .exit)) (now (load .entry)) (now (wanted .entry)) (now (stands .exit)) (now (ready .exit)) (now (loose .exit)) (now (bottoms .exit)) (now (tops .exit)) (now (roots .exit)) (now (highs .exit)) ⌝ }
+    requires { ⌜ Beginnable (now initial) (now goal) (now cur) (now yard) (now sets) ⌝ }
+    ensures { λ r. ⌜ Begun mode (now (initial .entry)) (now (goal .entry)) (now (cur .exit)) (now (yard .entry)) (now (yard .exit)) (now (sets .exit)) ⌝ }
 {
-    begin_lists(initial, goal, cur, load, stands);
-    fit(
-        kind,
-        initial,
-        goal,
-        load,
-        wanted,
-        stands,
-        ready,
-        loose,
-        bottoms,
-        tops,
-        roots,
-        highs,
-    );
+    lists::copy(initial, cur);
+    fit(mode, cur, goal, yard, sets);
 }
 
-// The state is copied, and the table is put in position. The goal and the loads are only spoken of.
-fn begin_lists(initial: &[u16], goal: &[u16], cur: &mut [u16], load: &[u16], stands: &mut [u16])
-    requires { ⌜ Listable (now initial) (now goal) (now cur) (now load) (now stands) ⌝ }
-    ensures { λ r. ⌜ Listed (now (initial .entry)) (now (goal .entry)) (now (cur .exit)) (now (load .entry)) (now (stands .exit)) ⌝ }
+// What a run keeps beside the blocks: the two sets, and the towers where it walks the loop.
+pub fn fit(mode: Mode, cur: &[u16], goal: &[u16], yard: &mut Yard, sets: &mut Sets)
+    requires { ⌜ Fittable (now cur) (now goal) (now yard) (now sets) ⌝ }
+    ensures { λ r. ⌜ Begun mode (now (cur .entry)) (now (goal .entry)) (now (cur .entry)) (now (yard .entry)) (now (yard .exit)) (now (sets .exit)) ⌝ }
 {
-    problem::copy(initial, cur);
-    stands[0] = 2;
+    fit_towers(mode, cur, goal, yard);
+    fill_sets(mode, cur, goal, yard, sets);
 }
 
-// What a run of a kind keeps beside the blocks: the two sets, and the towers where it walks the loop.
-pub fn fit(
-    kind: usize,
-    cur: &[u16],
-    goal: &[u16],
-    load: &[u16],
-    wanted: &[u16],
-    stands: &[u16],
-    ready: &mut [u64],
-    loose: &mut [u64],
-    bottoms: &mut [u16],
-    tops: &mut [u16],
-    roots: &mut [u16],
-    highs: &mut [u16],
-)
-    requires { ⌜ Fittable (now cur) (now goal) (now load) (now wanted) (now stands) (now ready) (now loose) (now bottoms) (now tops) (now roots) (now highs) ⌝ }
-    ensures { λ r. ⌜ Kept kind (now (cur .entry)) (now (goal .entry)) (now (load .entry)) (now (wanted .entry)) (now (stands .entry)) (now (ready .exit)) (now (loose .exit)) (now (bottoms .exit)) (now (tops .exit)) (now (roots .exit)) (now (highs .exit)) ⌝ }
+// The towers of both states, where the run walks the loop.
+fn fit_towers(mode: Mode, cur: &[u16], goal: &[u16], yard: &mut Yard)
+    requires { ⌜ Known (now cur) (now goal) (now yard) ⌝ }
+    ensures { λ r. ⌜ Fitted mode (now (cur .entry)) (now (goal .entry)) (now (yard .entry)) (now (yard .exit)) ⌝ }
 {
-    fit_towers(
-        kind,
-        cur,
-        goal,
-        load,
-        wanted,
-        stands,
-        bottoms,
-        tops,
-        roots,
-        highs,
-    );
-    fill_sets(kind, cur, goal, load, stands, ready, loose);
-}
-
-// The towers of both states, where the kind of run walks the loop.
-fn fit_towers(
-    kind: usize,
-    cur: &[u16],
-    goal: &[u16],
-    load: &[u16],
-    wanted: &[u16],
-    stands: &[u16],
-    bottoms: &mut [u16],
-    tops: &mut [u16],
-    roots: &mut [u16],
-    highs: &mut [u16],
-)
-    requires { ⌜ Towerable (now cur) (now goal) (now load) (now wanted) (now stands) (now bottoms) (now tops) (now roots) (now highs) ⌝ }
-    ensures { λ r. ⌜ Traced kind (now (cur .entry)) (now (goal .entry)) (now (bottoms .exit)) (now (tops .exit)) (now (roots .exit)) (now (highs .exit)) ⌝ }
-{
-    if kind < 3 {
+    if !walks(mode) {
         return;
     }
-    towers::fill_towers(cur, load, bottoms, tops);
-    towers::fill_towers(goal, wanted, roots, highs);
-    towers::fill_highs(cur, goal, wanted, roots, stands, highs);
+    towers::fill_towers(cur, yard, LOADS, BOTTOMS);
+    // the goal's tops go into the row behind its bottoms, which the highs then take
+    towers::fill_towers(goal, yard, GOAL_LOADS, GOAL_BOTTOMS);
+    towers::fill_highs(goal, yard);
 }
 
 // The two sets of the state.
-fn fill_sets(
-    kind: usize,
-    cur: &[u16],
-    goal: &[u16],
-    load: &[u16],
-    stands: &[u16],
-    ready: &mut [u64],
-    loose: &mut [u64],
-)
-    requires { ⌜ Settable (now cur) (now goal) (now load) (now stands) (now ready) (now loose) ⌝ }
-    ensures { λ r. ⌜ Sets kind (now (cur .entry)) (now (goal .entry)) (now (ready .exit)) (now (loose .exit)) ⌝ }
+fn fill_sets(mode: Mode, cur: &[u16], goal: &[u16], yard: &Yard, sets: &mut Sets)
+    requires { ⌜ Fittable (now cur) (now goal) (now yard) (now sets) ⌝ }
+    ensures { λ r. ⌜ Sets mode (now (cur .entry)) (now (goal .entry)) (now (sets .exit)) ⌝ }
 {
-    numberset::clear(ready);
-    numberset::clear(loose);
+    numberset::clear(&mut sets[READY]);
+    numberset::clear(&mut sets[LOOSE]);
     let n = cur.len();
     let mut b = 0;
     while b < n {
         b += 1;
-        admit(kind, cur, goal, load, stands, ready, loose, b);
+        admit(mode, cur, goal, yard, sets, b);
     }
 }
 
 // One move of a method: the state and all that is kept beside it.
 pub fn turn(
-    kind: usize,
+    mode: Mode,
     cur: &mut [u16],
     goal: &[u16],
-    load: &mut [u16],
-    wanted: &[u16],
-    stands: &mut [u16],
-    ready: &mut [u64],
-    loose: &mut [u64],
-    bottoms: &mut [u16],
-    tops: &mut [u16],
-    roots: &[u16],
-    highs: &mut [u16],
+    yard: &mut Yard,
+    sets: &mut Sets,
     a: usize,
     x: usize,
 )
-    requires { ⌜ Turnable kind (now cur) (now goal) (now load) (now wanted) (now stands) (now ready) (now loose) (now bottoms) (now tops) (now roots) (now highs) a x ⌝ }
-    ensures { λ r. ⌜ Turned kind (now (cur .entry)) (now (goal .entry)) a x (now (cur .exit)) (now (load .exit)) (now (wanted .entry)) (now (stands .exit)) (now (ready .exit)) (now (loose .exit)) (now (bottoms .exit)) (now (tops .exit)) (now (roots .entry)) (now (highs .exit)) ⌝ }
+    requires { ⌜ Turnable mode (now cur) (now goal) (now yard) (now sets) a x ⌝ }
+    ensures { λ r. ⌜ Turned mode (now (cur .entry)) (now (goal .entry)) a x (now (cur .exit)) (now (yard .entry)) (now (yard .exit)) (now (sets .exit)) ⌝ }
 {
-    trace(kind, cur, goal, bottoms, tops, roots, highs, a, x);
-    towers::settle(cur, goal, stands, a, x);
-    let u = problem::wide(cur[a - 1]);
-    problem::make_move(cur, load, a, x);
-    refresh_four(kind, cur, goal, load, wanted, stands, ready, loose, a, u);
+    trace(mode, cur, goal, yard, a, x);
+    towers::restand(goal, &mut yard[STANDS], a, x);
+    let u = lists::wide(cur[a - 1]);
+    problem::make_move(cur, &mut yard[LOADS], a, x);
+    refresh_four(mode, cur, goal, yard, sets, a, u);
 }
 
 // The towers after a move of a method, where they are kept.
-fn trace(
-    kind: usize,
-    cur: &[u16],
-    goal: &[u16],
-    bottoms: &mut [u16],
-    tops: &mut [u16],
-    roots: &[u16],
-    highs: &mut [u16],
-    a: usize,
-    x: usize,
-)
-    requires { ⌜ Traceable kind (now cur) (now goal) (now bottoms) (now tops) (now roots) (now highs) a x ⌝ }
-    ensures { λ r. ⌜ Traced kind (put (now (cur .entry)) a x) (now (goal .entry)) (now (bottoms .exit)) (now (tops .exit)) (now (roots .entry)) (now (highs .exit)) ⌝ }
+fn trace(mode: Mode, cur: &[u16], goal: &[u16], yard: &mut Yard, a: usize, x: usize)
+    requires { ⌜ Traceable mode (now cur) (now goal) (now yard) a x ⌝ }
+    ensures { λ r. ⌜ Traced mode (now (cur .entry)) (now (goal .entry)) a x (now (yard .entry)) (now (yard .exit)) ⌝ }
 {
-    if kind < 3 {
+    if !walks(mode) {
         return;
     }
-    towers::shift(cur, bottoms, tops, a, x);
-    towers::raise(cur, goal, roots, highs, a, x);
+    towers::shift(cur, yard, a, x);
+    towers::raise(goal, yard, a, x);
 }
 
 // Decides the tests that a move of a from u can have changed: of a, and whether the block that goes onto it in the goal is ready; the same for u, unless it is
 // the table.
 fn refresh_four(
-    kind: usize,
+    mode: Mode,
     cur: &[u16],
     goal: &[u16],
-    load: &[u16],
-    wanted: &[u16],
-    stands: &[u16],
-    ready: &mut [u64],
-    loose: &mut [u64],
+    yard: &Yard,
+    sets: &mut Sets,
     a: usize,
     u: usize,
 )
-    requires { ⌜ Moving kind (now cur) (now goal) (now load) (now wanted) (now stands) (now ready) (now loose) a u ⌝ }
-    ensures { λ r. ⌜ Sets kind (now (cur .entry)) (now (goal .entry)) (now (ready .exit)) (now (loose .exit)) ⌝ }
+    requires { ⌜ Moving mode (now cur) (now goal) (now yard) (now sets) a u ⌝ }
+    ensures { λ r. ⌜ Sets mode (now (cur .entry)) (now (goal .entry)) (now (sets .exit)) ⌝ }
 {
-    refresh(kind, cur, goal, load, stands, ready, loose, a);
-    offer(cur, goal, load, stands, ready, onto(wanted, a));
+    refresh(mode, cur, goal, yard, sets, a);
+    offer(goal, yard, &mut sets[READY], onto(yard, a));
     if u == 0 {
         return;
     }
-    admit(kind, cur, goal, load, stands, ready, loose, u);
-    offer(cur, goal, load, stands, ready, onto(wanted, u));
+    admit(mode, cur, goal, yard, sets, u);
+    offer(goal, yard, &mut sets[READY], onto(yard, u));
 }
 
 // The block that goes onto u in the goal; 0 for the table.
-fn onto(wanted: &[u16], u: usize) -> usize
-    requires { ⌜ u < length (now wanted) ⌝ }
-    ensures { λ r. ⌜ r ≡ cond (eqb u 0) 0 (getD (now (wanted .entry)) u 0) ⌝ }
+fn onto(yard: &Yard, u: usize) -> usize
+    requires { ⌜ (length (now yard) ≡ rowCount) × (u < rowSize) ⌝ }
+    ensures { λ r. ⌜ r ≡ cond (eqb u 0) 0 (getD (goalLoadsOf (now (yard .entry))) u 0) ⌝ }
 {
-    if u == 0 { 0 } else { problem::wide(wanted[u]) }
+    if u == 0 {
+        0
+    } else {
+        lists::wide(yard[GOAL_LOADS][u])
+    }
 }
 
 // Decides both tests of block b anew.
-fn refresh(
-    kind: usize,
-    cur: &[u16],
-    goal: &[u16],
-    load: &[u16],
-    stands: &[u16],
-    ready: &mut [u64],
-    loose: &mut [u64],
-    b: usize,
-)
-    requires { ⌜ Refreshable (now cur) (now goal) (now load) (now stands) (now ready) (now loose) b ⌝ }
-    ensures { λ r. ⌜ Refreshed kind (now (cur .entry)) (now (goal .entry)) b (now (ready .entry)) (now (loose .entry)) (now (ready .exit)) (now (loose .exit)) ⌝ }
+fn refresh(mode: Mode, cur: &[u16], goal: &[u16], yard: &Yard, sets: &mut Sets, b: usize)
+    requires { ⌜ Refreshable (now cur) (now goal) (now yard) (now sets) b ⌝ }
+    ensures { λ r. ⌜ Refreshed mode (now (cur .entry)) (now (goal .entry)) b (now (sets .entry)) (now (sets .exit)) ⌝ }
 {
-    numberset::assign(ready, b, is_ready(cur, goal, load, stands, b));
-    numberset::assign(loose, b, is_loose(kind, cur, goal, load, stands, b));
+    numberset::assign(&mut sets[READY], b, is_ready(goal, yard, b));
+    numberset::assign(&mut sets[LOOSE], b, is_loose(mode, cur, yard, b));
 }
 
 // The same for a block that is in no set in which it must not stay.
-fn admit(
-    kind: usize,
-    cur: &[u16],
-    goal: &[u16],
-    load: &[u16],
-    stands: &[u16],
-    ready: &mut [u64],
-    loose: &mut [u64],
-    b: usize,
-)
-    requires { ⌜ Admissible kind (now cur) (now goal) (now load) (now stands) (now ready) (now loose) b ⌝ }
-    ensures { λ r. ⌜ Refreshed kind (now (cur .entry)) (now (goal .entry)) b (now (ready .entry)) (now (loose .entry)) (now (ready .exit)) (now (loose .exit)) ⌝ }
+fn admit(mode: Mode, cur: &[u16], goal: &[u16], yard: &Yard, sets: &mut Sets, b: usize)
+    requires { ⌜ Admissible mode (now cur) (now goal) (now yard) (now sets) b ⌝ }
+    ensures { λ r. ⌜ Refreshed mode (now (cur .entry)) (now (goal .entry)) b (now (sets .entry)) (now (sets .exit)) ⌝ }
 {
-    offer(cur, goal, load, stands, ready, b);
-    if !is_loose(kind, cur, goal, load, stands, b) {
+    offer(goal, yard, &mut sets[READY], b);
+    if !is_loose(mode, cur, yard, b) {
         return;
     }
-    numberset::assign(loose, b, true);
+    numberset::assign(&mut sets[LOOSE], b, true);
 }
 
 // Puts block b into the set where it is ready. Where it is not, it is not in the set.
-fn offer(cur: &[u16], goal: &[u16], load: &[u16], stands: &[u16], ready: &mut [u64], b: usize)
-    requires { ⌜ Offerable (now cur) (now goal) (now load) (now stands) (now ready) b ⌝ }
-    ensures { λ r. ⌜ Redone (now (ready .entry)) b (readyᵇ (now (cur .entry)) (now (goal .entry)) b) (now (ready .exit)) ⌝ }
+fn offer(goal: &[u16], yard: &Yard, ready: &mut [u64], b: usize)
+    requires { ⌜ Offerable (now goal) (now yard) (now ready) b ⌝ }
+    ensures { λ r. ⌜ Assigned (now (ready .entry)) b (readyIn (now (goal .entry)) (now (yard .entry)) b) (now (ready .exit)) ⌝ }
 {
-    if !is_ready(cur, goal, load, stands, b) {
+    if !is_ready(goal, yard, b) {
         return;
     }
     numberset::assign(ready, b, true);
 }
 
 // Whether block b has a constructive move: it is misplaced and clear, and its goal support is in position and clear.
-fn is_ready(cur: &[u16], goal: &[u16], load: &[u16], stands: &[u16], b: usize) -> bool
-    requires { ⌜ Testable (now cur) (now goal) (now load) (now stands) b ⌝ }
-    ensures { λ r. ⌜ r ≡ readyᵇ (now (cur .entry)) (now (goal .entry)) b ⌝ }
+fn is_ready(goal: &[u16], yard: &Yard, b: usize) -> bool
+    requires { ⌜ Readable (now goal) (now yard) b ⌝ }
+    ensures { λ r. ⌜ r ≡ readyIn (now (goal .entry)) (now (yard .entry)) b ⌝ }
 {
-    if !is_waiting(cur, goal, load, stands, b) {
+    if !is_waiting(yard, b) {
         return false;
     }
-    let x = problem::wide(goal[b - 1]);
-    if stands[x] != 2 {
+    let x = lists::wide(goal[b - 1]);
+    if yard[STANDS][x] != 2 {
         return false;
     }
-    !problem::taken(load, x)
+    !problem::taken(&yard[LOADS], x)
 }
 
-// Whether block b is perched, or waits, by the kind of run.
-fn is_loose(kind: usize, cur: &[u16], goal: &[u16], load: &[u16], stands: &[u16], b: usize) -> bool
-    requires { ⌜ Testable (now cur) (now goal) (now load) (now stands) b ⌝ }
-    ensures { λ r. ⌜ r ≡ looseᵇ kind (now (cur .entry)) (now (goal .entry)) b ⌝ }
+// Whether block b waits, or is perched, by the mode of the run.
+fn is_loose(mode: Mode, cur: &[u16], yard: &Yard, b: usize) -> bool
+    requires { ⌜ Readable (now cur) (now yard) b ⌝ }
+    ensures { λ r. ⌜ r ≡ looseIn mode (now (cur .entry)) (now (yard .entry)) b ⌝ }
 {
-    if kind < 3 {
-        return is_perched(cur, goal, load, stands, b);
+    if !walks(mode) {
+        return is_perched(cur, yard, b);
     }
-    is_waiting(cur, goal, load, stands, b)
+    is_waiting(yard, b)
 }
 
 // Whether block b is misplaced and clear, and off the table.
-fn is_perched(cur: &[u16], goal: &[u16], load: &[u16], stands: &[u16], b: usize) -> bool
-    requires { ⌜ Testable (now cur) (now goal) (now load) (now stands) b ⌝ }
-    ensures { λ r. ⌜ r ≡ perchedᵇ (now (cur .entry)) (now (goal .entry)) b ⌝ }
+fn is_perched(cur: &[u16], yard: &Yard, b: usize) -> bool
+    requires { ⌜ Readable (now cur) (now yard) b ⌝ }
+    ensures { λ r. ⌜ r ≡ perchedIn (now (cur .entry)) (now (yard .entry)) b ⌝ }
 {
-    if !is_waiting(cur, goal, load, stands, b) {
+    if !is_waiting(yard, b) {
         return false;
     }
     cur[b - 1] != 0
 }
 
-// Whether block b is misplaced and clear. The states are only spoken of.
-fn is_waiting(cur: &[u16], goal: &[u16], load: &[u16], stands: &[u16], b: usize) -> bool
-    requires { ⌜ Testable (now cur) (now goal) (now load) (now stands) b ⌝ }
-    ensures { λ r. ⌜ r ≡ waitingᵇ (now (cur .entry)) (now (goal .entry)) b ⌝ }
+// Whether block b is misplaced and clear.
+fn is_waiting(yard: &Yard, b: usize) -> bool
+    requires { ⌜ (length (now yard) ≡ rowCount) × (b < rowSize) ⌝ }
+    ensures { λ r. ⌜ r ≡ waitsIn (now (yard .entry)) b ⌝ }
 {
-    if stands[b] != 1 {
+    if yard[STANDS][b] != 1 {
         return false;
     }
-    load[b] == 0
+    yard[LOADS][b] == 0
 }

@@ -1,12 +1,14 @@
 -- The exported answers are those of the library, case by case. Assumes nothing.
-use Prim.Native.Nat.{ℕ, _≤_}
+use Prim.Native.Nat.{ℕ}
 use mathlib.Core.Path.{_≡_, refl, sym, ap, _∙_}
 use mathlib.Core.Logic.{_≢_}
 use mathlib.Core.List.{List}
 use native.Mathlib.Omega.{arith}
 use Rattle.blocks.specs.State.{State}
-use Rattle.blocks.specs.Question.{BadState, Refused}
-use Rattle.blocks.specs.Refusal.{PlanRefused, DeadlockRefused}
+use Rattle.blocks.specs.Loop.{memberᵇ}
+use Rattle.blocks.specs.Question.{PlanRefused, planQuestions, DeadlockRefused, deadlockQuestions}
+use Rattle.blocks.proofs.QuestionLaws.{other-number}
+use Rattle.blocks.proofs.DecidedLaws.{plan-order, deadlock-order}
 use Rattle.blocks.proofs.Theorems.{theorems}
 use Rattle.blocks.specs.Answer.{checkAnswer, replayAnswer}
 use Rattle.problem.specs.Checked as problem
@@ -17,59 +19,44 @@ use Rattle.deadlocks.specs.Answers as deadlocks
 use Rattle.deadlocks.specs.declared.Tested as tested
 use Rattle.validator.specs.Replayed as validator
 use Rattle.validator.specs.declared.Replayed as replayed
-use Rattle.topjeska.specs.Exports.{checkOf, replayOf, ExportsPlan, ExportsDeadlock}
+use Rattle.topjeska.specs.Exports.{asCheck, asReplay, ExportsPlan, ExportsDeadlock}
 
 -- ---- checking
 
 module _ {s g : State} {c : checked.Checked} (w : problem.Checks s g c) where
-  pub check-accepted : c ≡ checked.the-variants.Accepted → checkOf (record { refusal = 0; place = 0 }) ≡ checkAnswer s g
-  check-accepted e = ap problem.checkOf (sym e) ∙ w .answer
+  pub check-accepted : c ≡ checked.the-variants.Accepted → asCheck (record { refusal = 0; place = 0 }) ≡ checkAnswer s g
+  check-accepted e = ap problem.answerOf (sym e) ∙ w .answer
 
-  pub check-refused : {k p : ℕ} → c ≡ checked.the-variants.Refused k p → checkOf (record { refusal = k; place = p }) ≡ checkAnswer s g
-  check-refused e = ap problem.checkOf (sym e) ∙ w .answer
+  pub check-refused : {k p : ℕ} → c ≡ checked.the-variants.Refused k p → asCheck (record { refusal = k; place = p }) ≡ checkAnswer s g
+  check-refused e = ap problem.answerOf (sym e) ∙ w .answer
 
 -- ---- planning
 
 -- no refusal has the number 0
-bad-number : {k₁ k₂ k₃ : ℕ} {s : State} {k p : ℕ} → 1 ≤ k₁ → 1 ≤ k₂ → 1 ≤ k₃ → BadState k₁ k₂ k₃ s k p → k ≢ 0
-bad-number a b c (BadState.entry l) z = omega (arith, a, z)
-bad-number a b c (BadState.shares n l) z = omega (arith, b, z)
-bad-number a b c (BadState.floats n m l) z = omega (arith, c, z)
-
-refused-number : {s g : State} {k p : ℕ} → Refused s g k p → k ≢ 0
-refused-number (Refused.long h) z = omega (arith, z)
-refused-number (Refused.uneven h n) z = omega (arith, z)
-refused-number (Refused.initial h e b) z = bad-number (omega arith) (omega arith) (omega arith) b z
-refused-number (Refused.goal h e i b) z = bad-number (omega arith) (omega arith) (omega arith) b z
-
-plan-number : {m : ℕ} {s g : State} {space : List ℕ} {k p : ℕ} → PlanRefused m s g space k p → k ≢ 0
-plan-number (PlanRefused.method n) z = omega (arith, z)
-plan-number (PlanRefused.problem i r) z = refused-number r z
-plan-number (PlanRefused.room i a h) z = omega (arith, z)
-plan-number (PlanRefused.noBlock i a h e) z = omega (arith, z)
+plan-number : (m : ℕ) (s g : State) (space : List ℕ) (k p : ℕ) → PlanRefused m s g space k p → k ≢ 0
+plan-number m s g space k p r = other-number (planQuestions m s g space) 0 (ap (memberᵇ 0) (plan-order m s g space)) k p r
 
 module _ {m : ℕ} {s g : State} {space : List ℕ} {r : planned.Planned} {space′ : List ℕ} (w : planner.Plans m s g space r space′) where
   pub plan-refused : {k p : ℕ} → r ≡ planned.the-variants.Refused k p → ExportsPlan m s g space (record { refusal = k; place = p; count = 0; changed = 0 }) space′
   plan-refused {k} {p} e =
       record {
-        answer = ap planner.planOf (sym e) ∙ w .answer;
+        answer = ap planner.answerOf (sym e) ∙ w .answer;
         lent = w .lent;
-        promise = λ z. absurd (plan-number (theorems .plan-refuses m s g space k p .0 (sym (w .asked) ∙ ap planner.askedOf e)) z);
+        promise = λ z. absurd (plan-number m s g space k p (theorems .plan-refuses m s g space k p .0 (sym (w .asked) ∙ ap planner.askedOf e)) z);
       }
 
   pub plan-made : {c d : ℕ} → r ≡ planned.the-variants.Made c d → ExportsPlan m s g space (record { refusal = 0; place = 0; count = c; changed = d }) space′
-  plan-made {c} {d} e = record { answer = ap planner.planOf (sym e) ∙ w .answer; lent = w .lent; promise = λ _. w .promise c d e }
+  plan-made {c} {d} e = record { answer = ap planner.answerOf (sym e) ∙ w .answer; lent = w .lent; promise = λ _. w .promise c d e }
 
 -- ---- the deadlock test
 
-deadlock-number : {s g : State} {space : List ℕ} {k p : ℕ} → DeadlockRefused s g space k p → k ≢ 0
-deadlock-number (DeadlockRefused.problem r) z = refused-number r z
-deadlock-number (DeadlockRefused.room a h) z = omega (arith, z)
+deadlock-number : (s g : State) (space : List ℕ) (k p : ℕ) → DeadlockRefused s g space k p → k ≢ 0
+deadlock-number s g space k p r = other-number (deadlockQuestions s g space) 0 (ap (memberᵇ 0) (deadlock-order s g space)) k p r
 
 module _ {s g : State} {space : List ℕ} {r : tested.Tested} {space′ : List ℕ} (w : deadlocks.TestsDeadlock s g space r space′) where
   pub deadlock-refused : {k p : ℕ} → r ≡ tested.the-variants.Refused k p → ExportsDeadlock s g space (record { refusal = k; place = p; count = 0 }) space′
   deadlock-refused {k} {p} e =
-      let n : k ≢ 0 = deadlock-number (theorems .deadlock-refuses s g space k p .0 (sym (w .asked) ∙ ap deadlocks.askedOf e)) in
+      let n : k ≢ 0 = deadlock-number s g space k p (theorems .deadlock-refuses s g space k p .0 (sym (w .asked) ∙ ap deadlocks.askedOf e)) in
       record { answer = ap deadlocks.answerOf (sym e) ∙ w .answer; lent = w .lent; free = λ z _. absurd (n z); shown = λ z _. absurd (n z) }
 
   pub deadlock-free : r ≡ tested.the-variants.Free → ExportsDeadlock s g space (record { refusal = 0; place = 0; count = 0 }) space′
@@ -88,8 +75,8 @@ module _ {s g : State} {space : List ℕ} {r : tested.Tested} {space′ : List �
 -- ---- replay
 
 module _ {s g : State} {lifts : List ℕ} {r : replayed.Replayed} (w : validator.Replays s g lifts r) where
-  pub replay-refused : {k p : ℕ} → r ≡ replayed.the-variants.Refused k p → replayOf (record { refusal = k; verdict = 0; place = p }) ≡ replayAnswer s g lifts
-  replay-refused e = ap validator.replayOf (sym e) ∙ w .answer
+  pub replay-refused : {k p : ℕ} → r ≡ replayed.the-variants.Refused k p → asReplay (record { refusal = k; verdict = 0; place = p }) ≡ replayAnswer s g lifts
+  replay-refused e = ap validator.answerOf (sym e) ∙ w .answer
 
-  pub replay-judged : {v p : ℕ} → r ≡ replayed.the-variants.Judged v p → replayOf (record { refusal = 0; verdict = v; place = p }) ≡ replayAnswer s g lifts
-  replay-judged e = ap validator.replayOf (sym e) ∙ w .answer
+  pub replay-judged : {v p : ℕ} → r ≡ replayed.the-variants.Judged v p → asReplay (record { refusal = 0; verdict = v; place = p }) ≡ replayAnswer s g lifts
+  replay-judged e = ap validator.answerOf (sym e) ∙ w .answer

@@ -7,36 +7,36 @@ use mathlib.Core.Option.{some}
 use lib.ListN.{length, take}
 use Rattle.blocks.specs.State.{State}
 use Rattle.blocks.specs.Answer as answer
-use Rattle.blocks.specs.Answer.{moves, methodOf, planAnswer, planSpace, deadlockAnswer, deadlockSpace}
-use Rattle.blocks.specs.Method.{Method}
+use Rattle.blocks.specs.Answer.{moves, planAnswer, planSpace, deadlockAnswer, deadlockSpace}
+use Rattle.blocks.specs.Method.{methodOf, Method}
 use Rattle.blocks.specs.Demands.{Promise, NoDeadlock, Shown}
 use Rattle.topjeska.specs.declared.CheckAnswer.{CheckAnswer}
 use Rattle.topjeska.specs.declared.PlanAnswer.{PlanAnswer}
 use Rattle.topjeska.specs.declared.DeadlockAnswer.{DeadlockAnswer}
 use Rattle.topjeska.specs.declared.ReplayAnswer.{ReplayAnswer}
 
-abbrev pub checkOf : CheckAnswer → answer.CheckAnswer
-checkOf r = record { number = r .refusal; place = r .place }
+abbrev pub asCheck : CheckAnswer → answer.CheckAnswer
+asCheck r = record { number = r .refusal; place = r .place }
 
-abbrev pub planOf : PlanAnswer → answer.PlanAnswer
-planOf r = record { number = r .refusal; place = r .place; count = r .count; changed = r .changed }
+abbrev pub asPlan : PlanAnswer → answer.PlanAnswer
+asPlan r = record { number = r .refusal; place = r .place; count = r .count; changed = r .changed }
 
-abbrev pub deadlockOf : DeadlockAnswer → answer.DeadlockAnswer
-deadlockOf r = record { number = r .refusal; place = r .place; count = r .count }
+abbrev pub asDeadlock : DeadlockAnswer → answer.DeadlockAnswer
+asDeadlock r = record { number = r .refusal; place = r .place; count = r .count }
 
-abbrev pub replayOf : ReplayAnswer → answer.ReplayAnswer
-replayOf r = record { number = r .refusal; verdict = r .verdict; place = r .place }
+abbrev pub asReplay : ReplayAnswer → answer.ReplayAnswer
+asReplay r = record { number = r .refusal; verdict = r .verdict; place = r .place }
 
 -- Planning: the answer that the definition gives, the lent space whole, and demand 3 of the list that is written.
 pub record ExportsPlan (m : ℕ) (s g : State) (space : List ℕ) (r : PlanAnswer) (space′ : List ℕ) : Type 0 where
-  pub answer : planOf r ≡ planAnswer m s g space
+  pub answer : asPlan r ≡ planAnswer m s g space
   pub lent : space′ ≡ planSpace m s g space
   pub promise : r .refusal ≡ 0 → (method : Method) → methodOf m ≡ some method → Promise method s g (moves (take (2 * r .count) space′))
 
 -- The deadlock test: the answer that the definition gives, the lent space whole; count 0 says that no blocks are deadlocked at the start, another count
 -- that the pairs show blocks that are.
 pub record ExportsDeadlock (s g : State) (space : List ℕ) (r : DeadlockAnswer) (space′ : List ℕ) : Type 0 where
-  pub answer : deadlockOf r ≡ deadlockAnswer s g space
+  pub answer : asDeadlock r ≡ deadlockAnswer s g space
   pub lent : space′ ≡ deadlockSpace s g space
   pub free : r .refusal ≡ 0 → r .count ≡ 0 → NoDeadlock s g
   pub shown : r .refusal ≡ 0 → r .count ≢ 0 → (blocks : List ℕ) × (length blocks ≡ r .count) × Shown s g blocks (take (2 * r .count) space′)

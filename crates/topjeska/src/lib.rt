@@ -1,7 +1,7 @@
 // What C and Rust link: the four operations with answers of plain numbers. include/topjeska.h declares them.
 ghost use mathlib.Core.Path.{_≡_};
 ghost use Rattle.blocks.specs.Answer.{checkAnswer, replayAnswer};
-ghost use Rattle.topjeska.specs.Exports.{checkOf, replayOf, ExportsPlan, ExportsDeadlock};
+ghost use Rattle.topjeska.specs.Exports.{asCheck, asReplay, ExportsPlan, ExportsDeadlock};
 use deadlocks::Tested;
 use planner::Planned;
 use problem::Checked;
@@ -38,7 +38,7 @@ pub struct ReplayAnswer {
 // Questions 2 to 9.
 #[no_mangle]
 pub extern "C" fn topjeska_check(initial: &[u16], goal: &[u16]) -> CheckAnswer
-    ensures { λ r. ⌜ checkOf r ≡ checkAnswer (now (initial .entry)) (now (goal .entry)) ⌝ }
+    ensures { λ r. ⌜ asCheck r ≡ checkAnswer (now (initial .entry)) (now (goal .entry)) ⌝ }
 {
     let checked = problem::check(initial, goal);
     match checked {
@@ -112,7 +112,7 @@ pub extern "C" fn topjeska_deadlock(
 // Replay of a list of lifts.
 #[no_mangle]
 pub extern "C" fn topjeska_replay(initial: &[u16], goal: &[u16], lifts: &[u16]) -> ReplayAnswer
-    ensures { λ r. ⌜ replayOf r ≡ replayAnswer (now (initial .entry)) (now (goal .entry)) (now (lifts .entry)) ⌝ }
+    ensures { λ r. ⌜ asReplay r ≡ replayAnswer (now (initial .entry)) (now (goal .entry)) (now (lifts .entry)) ⌝ }
 {
     let replayed = validator::validate(initial, goal, lifts);
     match replayed {

@@ -15,14 +15,17 @@ use mir.Val.{Fits}
 use Rattle.blocks.specs.State.{State, Block, support, put, down, Clear}
 use Rattle.blocks.specs.Position.{Proper}
 use Rattle.blocks.specs.Loop.{top}
-use Rattle.blocks.proofs.Reflect.{same?}
+use Rattle.lists.proofs.ReflectLaws.{same?}
 use Rattle.blocks.proofs.StateLaws.{length-put, support-put-other, support-at, down-table}
 use Rattle.blocks.proofs.FrameLaws.{moved-block, moved-avoided, support-moved, down-frame, moved-clear, clear-frame, proper-moved}
 use Rattle.blocks.proofs.TowerLaws.{Reaches}
-use Rattle.towers.specs.Towers.{bottom, Shiftable, Filled}
+use Rattle.rows.specs.Rows.{Yard, row, store, bottomsOf, topsOf, Within, rowSize}
+use Rattle.rows.proofs.RowLaws.{stored, stored-beside, within-none, within-store}
+use Rattle.towers.specs.Towers.{bottom, Bottoms, Tops}
+use Rattle.towers.specs.Moved.{Shifting, Shifted}
 use Rattle.towers.proofs.BottomLaws.{Base, base-over, base-flat, bottom-base, bottom-is, bottom-same, bottom-block, top-is, top-reaches, top-block}
 
-module _ {s : State} {bt tp : List ℕ} {a x : ℕ} (w : Shiftable s bt tp a x) where
+module _ {s : State} {y : Yard} {a x : ℕ} (w : Shifting s y a x) where
   abbrev t : State
   t = put s a x
 
@@ -51,7 +54,7 @@ module _ {s : State} {bt tp : List ℕ} {a x : ℕ} (w : Shiftable s bt tp a x) 
 
   -- what stands at the bottom of a's new tower
   abbrev joined : ℕ
-  joined = cond (eqb x 0) a (getD bt x 0)
+  joined = cond (eqb x 0) a (getD (bottomsOf y) x 0)
 
   target : x ≢ 0 → Block s x
   target n = record { low = omega (arith, n); high = w .legal .inside }
@@ -69,12 +72,12 @@ module _ {s : State} {bt tp : List ℕ} {a x : ℕ} (w : Shiftable s bt tp a x) 
       go (inl z) = rw (joined-table z) (base-flat (moved-block (w .legal)) (support-moved (w .legal) ∙ z))
       go (inr n) = rw (joined-block n) (base-over (1, support-moved (w .legal)) (base-frame (w .legal .apart) (bottom-base (w .proper) (target n))))
 
-  bottoms-at : {b : ℕ} → Block s b → getD (set bt a joined) b 0 ≡ bottom t b
+  bottoms-at : {b : ℕ} → Block s b → getD (set (bottomsOf y) a joined) b 0 ≡ bottom t b
   bottoms-at {b} k = go (same? b a)
     where
-      go : (b ≡ a) ⊎ (¬ (b ≡ a)) → getD (set bt a joined) b 0 ≡ bottom t b
-      go (inl e) = rw e (getD-set-same bt a joined 0 (omega (arith, w .legal .block .high, w .bottoms .room)) ∙ sym bottom-moved)
-      go (inr n) = getD-set-other bt a b joined 0 n ∙ w .bottoms .at b (k .low) (k .high) ∙ sym (bottom-other k n)
+      go : (b ≡ a) ⊎ (¬ (b ≡ a)) → getD (set (bottomsOf y) a joined) b 0 ≡ bottom t b
+      go (inl e) = rw e (getD-set-same (bottomsOf y) a joined 0 (omega (arith, w .legal .block .high, w .bottoms .room)) ∙ sym bottom-moved)
+      go (inr n) = getD-set-other (bottomsOf y) a b joined 0 n ∙ w .bottoms .at b (k .low) (k .high) ∙ sym (bottom-other k n)
 
   -- ---- tops
 
@@ -83,7 +86,7 @@ module _ {s : State} {bt tp : List ℕ} {a x : ℕ} (w : Shiftable s bt tp a x) 
 
   -- the bottom of the tower that a leaves; the table where a stands on the table
   abbrev left : ℕ
-  left = cond (eqb old 0) 0 (getD bt old 0)
+  left = cond (eqb old 0) 0 (getD (bottomsOf y) old 0)
 
   source : old ≢ 0 → Block s old
   source n = record { low = omega (arith, n); high = w .proper .entries a }
@@ -150,26 +153,26 @@ module _ {s : State} {bt tp : List ℕ} {a x : ℕ} (w : Shiftable s bt tp a x) 
         top-is after (kept (top-block (w .proper) k)) (kept k) clear (sym (bottom-same after reach (kept k)))
 
   abbrev tops : List ℕ
-  tops = set (set tp left old) joined a
+  tops = set (set (topsOf y) left old) joined a
 
-  left-in : left < length tp
+  left-in : left < length (topsOf y)
   left-in = omega (arith, left-inside, w .tops .room)
 
-  joined-in : joined < length (set tp left old)
-  joined-in = rw (length-set tp left old) (omega (arith, joined-inside, w .tops .room))
+  joined-in : joined < length (set (topsOf y) left old)
+  joined-in = rw (length-set (topsOf y) left old) (omega (arith, joined-inside, w .tops .room))
 
   tops-at : {b : ℕ} → Block s b → getD tops (bottom t b) 0 ≡ top t (length t) b
   tops-at {b} k = go (same? (bottom t b) joined) (same? (bottom t b) left)
     where
       go : (bottom t b ≡ joined) ⊎ (¬ (bottom t b ≡ joined)) → (bottom t b ≡ left) ⊎ (¬ (bottom t b ≡ left)) → getD tops (bottom t b) 0 ≡ top t (length t) b
       go (inl e) _ =
-          ap (λ y. getD tops y 0) e
-          ∙ getD-set-same (set tp left old) joined a 0 joined-in
+          ap (λ j. getD tops j 0) e
+          ∙ getD-set-same (set (topsOf y) left old) joined a 0 joined-in
           ∙ sym (top-is after (kept (w .legal .block)) (kept k) (moved-clear (w .legal)) (e ∙ sym bottom-moved))
       go (inr n) (inl e) =
-          getD-set-other (set tp left old) joined (bottom t b) a 0 n
-          ∙ ap (λ y. getD (set tp left old) y 0) e
-          ∙ getD-set-same tp left old 0 left-in
+          getD-set-other (set (topsOf y) left old) joined (bottom t b) a 0 n
+          ∙ ap (λ j. getD (set (topsOf y) left old) j 0) e
+          ∙ getD-set-same (topsOf y) left old 0 left-in
           ∙ sym (top-is after (kept (source some)) (kept k) old-clear (e ∙ left-block some ∙ sym (bottom-other (source some) old-apart)))
         where
           some : old ≢ 0
@@ -177,56 +180,95 @@ module _ {s : State} {bt tp : List ℕ} {a x : ℕ} (w : Shiftable s bt tp a x) 
       go (inr n) (inr m) =
           let other : b ≢ a = λ e. n (ap (bottom t) e ∙ bottom-moved) in
           let same : bottom t b ≡ bottom s b = bottom-other k other in
-          getD-set-other (set tp left old) joined (bottom t b) a 0 n
-          ∙ getD-set-other tp left (bottom t b) old 0 m
-          ∙ ap (λ y. getD tp y 0) same
+          getD-set-other (set (topsOf y) left old) joined (bottom t b) a 0 n
+          ∙ getD-set-other (topsOf y) left (bottom t b) old 0 m
+          ∙ ap (λ j. getD (topsOf y) j 0) same
           ∙ w .tops .at b (k .low) (k .high)
           ∙ sym (top-kept k other (λ e. n (same ∙ e)) (λ e. m (same ∙ e)))
 
-  filled : Filled t (set bt a joined) tops
-  filled = record {
-    bottoms = record {
-      room = rw (length-put s a x, length-set bt a joined) (w .bottoms .room);
+  filled : Bottoms t (set (bottomsOf y) a joined) × Tops t tops
+  filled = (
+    record {
+      room = rw (length-put s a x, length-set (bottomsOf y) a joined) (w .bottoms .room);
       at = λ b low high. bottoms-at (unkept (record { low = low; high = high }));
-    };
-    tops = record {
-      room = rw (length-put s a x, length-set (set tp left old) joined a, length-set tp left old) (w .tops .room);
+    },
+    record {
+      room = rw (length-put s a x, length-set (set (topsOf y) left old) joined a, length-set (topsOf y) left old) (w .tops .room);
       at = λ b low high. tops-at (unkept (record { low = low; high = high }));
-    };
-  }
+    },
+  )
 
 -- ---- what the code does, step by step: u is what was read as the old support, p and q the bottoms of the two towers
 
-module _ {s : State} {bt tp : List ℕ} {a x u : ℕ} (w : Shiftable s bt tp a x) (e : u ≡ getD s (a - 1) 0) where
+module _ {s : State} {y : Yard} {a x u : ℕ} (w : Shifting s y a x) (e : u ≡ getD s (a - 1) 0) where
   is-old : u ≡ support s a
   is-old = e ∙ sym (support-at s a (w .legal .block .low))
 
-  pub old-in : u < length bt
+  pub old-in : u < length (bottomsOf y)
   old-in = omega (arith, is-old, w .proper .entries a, w .bottoms .room)
 
   pub old-fits : Fits w16 u
   old-fits = record { fits = omega (arith, is-old, w .proper .entries a, w .small) }
 
-  module _ {p : ℕ} (f : p ≡ cond (eqb u 0) 0 (getD bt u 0)) where
+  module _ {p : ℕ} (f : p ≡ cond (eqb u 0) 0 (getD (bottomsOf y) u 0)) where
     is-left : p ≡ left w
     is-left = f ∙ rw is-old
 
-    pub left-within : p < length tp
-    left-within = rw is-left (left-in w)
+    pub left-within : p < rowSize
+    left-within = omega (arith, is-left, left-inside w, w .small)
 
     pub left-scaled : Fits w64 (p * 2)
     left-scaled = record { fits = omega (arith, is-left, left-inside w, w .small) }
 
-    module _ {q : ℕ} (h : q ≡ cond (eqb x 0) a (getD bt x 0)) where
-      pub joined-within : q < length (set tp p u)
-      joined-within = rw (is-left, is-old, h) (joined-in w)
-
-      pub shifted : Filled (put s a x) (set bt a q) (set (set tp p u) q a)
+    module _ {q : ℕ} (h : q ≡ cond (eqb x 0) a (getD (bottomsOf y) x 0)) where
+      shifted : Bottoms (put s a x) (set (bottomsOf y) a q) × Tops (put s a x) (set (set (topsOf y) p u) q a)
       shifted = rw (is-left, is-old, h) (filled w)
 
-module _ {s : State} {bt tp : List ℕ} {a x q : ℕ} (w : Shiftable s bt tp a x) (h : q ≡ cond (eqb x 0) a (getD bt x 0)) where
+module _ {s : State} {y : Yard} {a x q : ℕ} (w : Shifting s y a x) (h : q ≡ cond (eqb x 0) a (getD (bottomsOf y) x 0)) where
+  pub joined-within : q < rowSize
+  joined-within = omega (arith, h, joined-inside w, w .small)
+
   pub joined-scaled : Fits w64 (q * 2)
   joined-scaled = record { fits = omega (arith, h, joined-inside w, w .small) }
 
   pub joined-fits : Fits w16 q
   joined-fits = record { fits = omega (arith, h, joined-inside w, w .small) }
+
+-- ---- the same in the rows of the lent array
+
+module _ {s : State} {y : Yard} {a x u p q : ℕ} (w : Shifting s y a x) (e : u ≡ getD s (a - 1) 0) (f : p ≡ cond (eqb u 0) 0 (getD (bottomsOf y) u 0))
+    (h : q ≡ cond (eqb x 0) a (getD (bottomsOf y) x 0)) where
+  abbrev y₁ : Yard
+  y₁ = store y 4 p u
+
+  abbrev y₂ : Yard
+  y₂ = store y₁ 4 q a
+
+  abbrev y₃ : Yard
+  y₃ = store y₂ 3 a q
+
+  within₁ : Within 3 5 y y₁
+  within₁ = within-store 4 p u within-none (omega arith) (omega arith)
+
+  within₂ : Within 3 5 y y₂
+  within₂ = within-store 4 q a within₁ (omega arith) (omega arith)
+
+  bottoms-after : row y₃ 3 ≡ set (bottomsOf y) a q
+  bottoms-after =
+      stored y₂ 3 a q (omega (arith, within₂ .size, w .sized .rows))
+      ∙ ap (λ l. set l a q) (stored-beside y₁ 4 q a 3 (λ z. omega arith) ∙ stored-beside y 4 p u 3 (λ z. omega arith))
+
+  tops-after : row y₃ 4 ≡ set (set (topsOf y) p u) q a
+  tops-after =
+      stored-beside y₂ 3 a q 4 (λ z. omega arith)
+      ∙ stored y₁ 4 q a (omega (arith, within₁ .size, w .sized .rows))
+      ∙ ap (λ l. set l q a) (stored y 4 p u (omega (arith, w .sized .rows)))
+
+  pub shifted-rows : Shifted s a x y y₃
+  shifted-rows =
+      let d = shifted w e f h in
+      record {
+        bottoms = rw bottoms-after (d .0);
+        tops = rw tops-after (d .1);
+        within = within-store 3 a q within₂ (omega arith) (omega arith);
+      }

@@ -1,2 +1,4 @@
 pub mod Towers
+pub mod Linked
+pub mod Moved
 pub mod Walks

@@ -1,19 +1,17 @@
 -- What is kept at the bottom of each tower (document 001, section 3.5, the concierge): its top, and for towers of the goal the highest block in position.
 -- Assumes nothing.
-use Prim.Native.Nat.{ℕ, zero, suc, _≤_, _<_}
+use Prim.Native.Nat.{ℕ, zero, suc, _+_, _≤_, _<_}
 use mathlib.Core.Path.{_≡_}
 use mathlib.Core.Bool.{cond}
 use mathlib.Core.List.{List}
 use lib.Dec.{eqb}
 use lib.ListN.{length, getD}
-use Rattle.blocks.specs.State.{State, support}
+use Rattle.rows.specs.Rows.{Yard, row, Sized, standsOf, goalLoadsOf, goalBottomsOf, highsOf, Within}
+use Rattle.blocks.specs.State.{State, most, support}
 use Rattle.blocks.specs.Position.{Proper, Problem, Misplaced}
-use Rattle.blocks.specs.Move.{Legal}
-use Rattle.blocks.specs.Stall.{Moves}
 use Rattle.blocks.specs.Tests.{inPositionᵇ}
-use Rattle.blocks.specs.Loop.{lastMisplaced, top, blocker, successor}
+use Rattle.blocks.specs.Loop.{lastMisplaced, top}
 use Rattle.problem.specs.Known.{Loads}
-use Rattle.towers.specs.declared.Blocked.{Blocked}
 
 -- The block on the table at the bottom of b's tower.
 unfoldable pub bottomIn : State → ℕ → ℕ → ℕ
@@ -43,63 +41,32 @@ pub record Highs (s g : State) (l : List ℕ) : Type 0 where
   pub room : length s < length l
   pub at : (b : ℕ) → Misplaced s g b → getD l (bottom g b) 0 ≡ support g (lastMisplaced s g (length s) b)
 
--- A state whose loads are known, and lists as long as they must be.
-pub record Fillable (s : State) (l bt tp : List ℕ) : Type 0 where
-  pub small : length s ≤ 4000
+-- A state whose loads a row has, and two rows for its towers.
+pub record Fillable (s : State) (y : Yard) (loads bottoms : ℕ) : Type 0 where
+  pub small : length s ≤ most
   pub proper : Proper s
-  pub loads : Loads s l
-  pub bottom-room : length s < length bt
-  pub top-room : length s < length tp
+  pub known : Loads s (row y loads)
+  pub before : loads < bottoms
+  pub inside : bottoms + 1 < 9
+  pub sized : Sized y
 
-pub record Filled (s : State) (bt tp : List ℕ) : Type 0 where
-  pub bottoms : Bottoms s bt
-  pub tops : Tops s tp
+-- The towers are in their rows; no other row has changed.
+pub record Filled (s : State) (bottoms : ℕ) (y y′ : Yard) : Type 0 where
+  pub bottom : Bottoms s (row y′ bottoms)
+  pub top : Tops s (row y′ (bottoms + 1))
+  pub within : Within bottoms (bottoms + 2) y y′
 
--- What must be known of the goal and of how the blocks stand.
-pub record Climbed (s g : State) (gl gb st hi : List ℕ) : Type 0 where
-  pub small : length s ≤ 4000
-  pub problem : Problem s g
-  pub loads : Loads g gl
-  pub bottoms : Bottoms g gb
-  pub stands : Stands s g st
-  pub room : length s < length hi
+-- A goal whose loads and bottoms the rows have, and standings in which the table is in position.
+pub record Climbable (g : State) (y : Yard) : Type 0 where
+  pub small : length g ≤ most
+  pub proper : Proper g
+  pub sized : Sized y
+  pub goal-loads : Loads g (goalLoadsOf y)
+  pub goal-bottoms : Bottoms g (goalBottomsOf y)
+  pub room : length g < length (standsOf y)
+  pub table : getD (standsOf y) 0 0 ≡ 2
 
--- A legal move in a state whose towers are known.
-pub record Shiftable (s : State) (bt tp : List ℕ) (a x : ℕ) : Type 0 where
-  pub small : length s ≤ 4000
-  pub proper : Proper s
-  pub legal : Legal s a x
-  pub bottoms : Bottoms s bt
-  pub tops : Tops s tp
-
--- All that the successor of a block is found by.
-pub record Findable (s g : State) (l gl bt tp gb hi : List ℕ) (b : ℕ) : Type 0 where
-  pub small : length s ≤ 4000
-  pub problem : Problem s g
-  pub loads : Loads s l
-  pub goal-loads : Loads g gl
-  pub bottoms : Bottoms s bt
-  pub tops : Tops s tp
-  pub goal-bottoms : Bottoms g gb
-  pub highs : Highs s g hi
-  pub misplaced : Misplaced s g b
-
--- What is in a block's way, and its successor.
-pub record Found (s g : State) (b : ℕ) (r : Blocked) : Type 0 where
-  pub by : r .by ≡ blocker s g b
-  pub next : r .next ≡ successor s g b
-
--- A move of a method, in a state of which it is known how the blocks stand.
-pub record Settleable (s g : State) (st : List ℕ) (a x : ℕ) : Type 0 where
-  pub small : length s ≤ 4000
-  pub problem : Problem s g
-  pub move : Moves s g a x
-  pub stands : Stands s g st
-
--- The highest block in position of a's goal tower can be decided anew.
-pub record Raisable (s g : State) (gb hi : List ℕ) (a x : ℕ) : Type 0 where
-  pub small : length s ≤ 4000
-  pub problem : Problem s g
-  pub move : Moves s g a x
-  pub roots : Bottoms g gb
-  pub highs : Highs s g hi
+-- The row says which block in position is the highest of each goal tower, in whatever state the blocks stand so; no other row has changed.
+pub record Climbed (g : State) (y y′ : Yard) : Type 0 where
+  pub highs : (s : State) → Problem s g → Stands s g (standsOf y) → Highs s g (highsOf y′)
+  pub within : Within 6 7 y y′

@@ -1,6 +1,6 @@
 -- Following a list of pairs: what the loop knows after k moves, and what each of its ways out answers. Assumes nothing.
-use Prim.Native.Nat.{ℕ, zero, suc, _+_, _*_, _/_, _%_, _≤_, _<_}
-use mathlib.Core.Path.{_≡_, refl, sym, ap, _∙_}
+use Prim.Native.Nat.{ℕ, zero, suc, _+_, _*_, _/_, _≤_, _<_}
+use mathlib.Core.Path.{_≡_, refl, sym, ap, ap₂, _∙_}
 use mathlib.Core.Logic.{_≢_}
 use mathlib.Core.List.{List, _∷_}
 use native.Mathlib.Omega.{arith}
@@ -10,108 +10,103 @@ use lib.Seq.{drop-cons}
 use Rattle.blocks.specs.State.{State, put}
 use Rattle.blocks.specs.Move.{_⟶_, Legal}
 use Rattle.blocks.specs.Question.{firstNo}
-use Rattle.blocks.specs.Answer.{moves, moveQuestions, replayFrom, firstDifference, arrival, orBad}
+use Rattle.blocks.specs.Answer.{ReplayAnswer, moves, replayFrom, firstDifference, arrival, orBad}
+use Rattle.blocks.specs.Replay.{moveQuestions}
 use Rattle.blocks.proofs.StateLaws.{length-put}
-use Rattle.blocks.proofs.FrameLaws.{proper-moved}
+use Rattle.blocks.proofs.FrameLaws.{problem-moved}
 use Rattle.blocks.proofs.ReplayLaws.{move-yes}
 use Rattle.problem.specs.Known.{Movable, MovedTo}
-use Rattle.validator.specs.Replayed.{faultOf, Follows, Current, Followable}
+use Rattle.validator.specs.Replayed.{faultOf, Replayable, Follows}
 use Rattle.validator.specs.declared.Replayed.the-variants.{Judged}
 
-pub record Following (s g : State) (lifts : List ℕ) (n k : ℕ) (cur l : List ℕ) : Type 0 where
-  pub current : Current cur l
-  pub same : length g ≡ length cur
-  pub even : length lifts % 2 ≡ 0
-  pub all : n ≡ length lifts / 2
+pub record Following (s g : State) (list : List ℕ) (n k : ℕ) (cur l : List ℕ) : Type 0 where
+  pub known : Replayable cur g list l
+  pub all : n ≡ length list / 2
   pub within : k ≤ n
   -- what is left to do gives what the whole gives
-  pub answer : replayFrom (suc k) cur g (moves (drop (2 * k) lifts)) ≡ replayFrom 1 s g (moves lifts)
+  pub answer : replayFrom (suc k) cur g (moves (drop (2 * k) list)) ≡ replayFrom 1 s g (moves list)
 
-pub begin : {s g : State} {l lifts : List ℕ} {n : ℕ} → Followable s g l lifts → n ≡ length lifts / 2 → Following s g lifts n 0 s l
-begin w e = record { current = w .current; same = w .same; even = w .even; all = e; within = omega arith; answer = refl }
+pub begin : {s g : State} {list l : List ℕ} {n : ℕ} → Replayable s g list l → n ≡ length list / 2 → Following s g list n 0 s l
+begin w e = record { known = w; all = e; within = omega arith; answer = refl }
 
-module _ {s g : State} {lifts cur l : List ℕ} {n k : ℕ} (w : Following s g lifts n k cur l) where
+module _ {s g : State} {list cur l : List ℕ} {n k : ℕ} (w : Following s g list n k cur l) where
   -- both numbers of the next pair are there
-  pub pair-within : k < n → 2 * k + 1 < length lifts
-  pair-within h = omega (arith, w .all, w .even)
+  pub pair-within : k < n → 2 * k + 1 < length list
+  pair-within h = omega (arith, w .all, w .known .even)
 
-  pub first-within : k < n → 2 * k < length lifts
+  pub first-within : k < n → 2 * k < length list
   first-within h = omega (arith, pair-within h)
 
-  module _ {a x : ℕ} (h : k < n) (ea : a ≡ getD lifts (2 * k) 0) (ex : x ≡ getD lifts (2 * k + 1) 0) where
-    -- the next pair and the rest
-    next-pair : moves (drop (2 * k) lifts) ≡ (a ⟶ x) ∷ moves (drop (2 * (k + 1)) lifts)
-    next-pair =
-        let two : suc (suc (2 * k)) ≡ 2 * (k + 1) = omega arith in
-        let one : suc (2 * k) ≡ 2 * k + 1 = omega arith in
-        ap moves (
-        drop-cons lifts (2 * k) 0 (first-within h)
-        ∙ ap (λ r. getD lifts (2 * k) 0 ∷ r) (drop-cons lifts (suc (2 * k)) 0 (omega (arith, pair-within h)))
-        ∙ ap (λ j. getD lifts (2 * k) 0 ∷ getD lifts j 0 ∷ drop (suc (suc (2 * k))) lifts) one
-        ∙ ap (λ j. getD lifts (2 * k) 0 ∷ getD lifts (2 * k + 1) 0 ∷ drop j lifts) two
-        )
-        ∙ ap (λ y. (y ⟶ getD lifts (2 * k + 1) 0) ∷ moves (drop (2 * (k + 1)) lifts)) (sym ea)
-        ∙ ap (λ y. (a ⟶ y) ∷ moves (drop (2 * (k + 1)) lifts)) (sym ex)
+  module _ {a x : ℕ} (h : k < n) (ea : a ≡ getD list (2 * k) 0) (ex : x ≡ getD list (2 * k + 1) 0) where
+    -- what the moves after this one give
+    abbrev onward : ReplayAnswer
+    onward = replayFrom (suc (suc k)) (put cur a x) g (moves (drop (2 * (k + 1)) list))
 
-    unrolled : orBad (firstNo (moveQuestions cur a x)) (suc k) (replayFrom (suc (suc k)) (put cur a x) g (moves (drop (2 * (k + 1)) lifts))) ≡ replayFrom 1 s g (moves lifts)
+    -- the next pair and the rest
+    next-pair : moves (drop (2 * k) list) ≡ (a ⟶ x) ∷ moves (drop (2 * (k + 1)) list)
+    next-pair =
+        let one : 2 * k + 1 ≡ suc (2 * k) = omega arith in
+        let two : 2 * (k + 1) ≡ suc (suc (2 * k)) = omega arith in
+        rw (ea, ex, one, two, drop-cons list (2 * k) 0 (first-within h), drop-cons list (suc (2 * k)) 0 (omega (arith, pair-within h)))
+
+    unrolled : orBad (firstNo (moveQuestions cur a x)) (suc k) onward ≡ replayFrom 1 s g (moves list)
     unfolding replayFrom
     unrolled = sym (ap (replayFrom (suc k) cur g) next-pair) ∙ w .answer
 
     -- a bad move ends with its verdict and its place
-    pub bad-way : {v : ℕ} → faultOf v ≡ firstNo (moveQuestions cur a x) → v ≢ 0 → Follows s g lifts (Judged v (k + 1))
+    pub bad-way : {v : ℕ} → faultOf v ≡ firstNo (moveQuestions cur a x) → v ≢ 0 → Follows s g list (Judged v (k + 1))
     bad-way {v} f m = by v f m
       where
-        by : (u : ℕ) → faultOf u ≡ firstNo (moveQuestions cur a x) → u ≢ 0 → Follows s g lifts (Judged u (k + 1))
+        by : (u : ℕ) → faultOf u ≡ firstNo (moveQuestions cur a x) → u ≢ 0 → Follows s g list (Judged u (k + 1))
         by zero e z = absurd (z refl)
         by (suc u) e z =
             record {
               judged = refl;
-              answer =
-                  ap (λ p. record { number = 0; verdict = suc u; place = p }) (add-one k)
-                  ∙ ap (λ q. orBad q (suc k) (replayFrom (suc (suc k)) (put cur a x) g (moves (drop (2 * (k + 1)) lifts)))) e
-                  ∙ unrolled;
+              answer = ap (λ p. record { number = 0; verdict = suc u; place = p }) (add-one k) ∙ ap (λ q. orBad q (suc k) onward) e ∙ unrolled;
             }
 
-    legal-move : {v : ℕ} → faultOf v ≡ firstNo (moveQuestions cur a x) → v ≡ 0 → Legal cur a x
-    legal-move f z = move-yes cur a x .0 (sym f ∙ ap faultOf z)
+    module _ {v : ℕ} (f : faultOf v ≡ firstNo (moveQuestions cur a x)) (z : v ≡ 0) where
+      legal : Legal cur a x
+      legal = move-yes cur a x .0 (sym f ∙ ap faultOf z)
 
-    pub movable : {v : ℕ} → faultOf v ≡ firstNo (moveQuestions cur a x) → v ≡ 0 → Movable cur l a x
-    movable f z = record { small = w .current .small; proper = w .current .proper; legal = legal-move f z; loads = w .current .loads }
+      pub movable : Movable cur l a x
+      movable =
+          let p = w .known .problem in
+          record { small = p .small; proper = p .problem .initial; legal = legal; loads = w .known .loads }
 
-    pub next : {v : ℕ} {cur′ l′ : List ℕ} → faultOf v ≡ firstNo (moveQuestions cur a x) → v ≡ 0 → MovedTo cur a x cur′ l′ → Following s g lifts n (k + 1) cur′ l′
-    next {cur′ = cur′} f z m =
-        let long : length cur′ ≡ length cur = ap length (m .state) ∙ length-put cur a x in
-        record {
-          current =
-              record {
-                small = omega (arith, long, w .current .small);
-                proper = rw (m .state) (proper-moved (legal-move f z) (w .current .proper));
-                loads = m .loads;
-              };
-          same = w .same ∙ sym long;
-          even = w .even;
-          all = w .all;
-          within = omega arith;
-          answer =
-              ap (λ j. replayFrom (suc j) cur′ g (moves (drop (2 * (k + 1)) lifts))) (add-one k)
-              ∙ ap (λ c. replayFrom (suc (suc k)) c g (moves (drop (2 * (k + 1)) lifts))) (m .state)
-              ∙ ap (λ q. orBad q (suc k) (replayFrom (suc (suc k)) (put cur a x) g (moves (drop (2 * (k + 1)) lifts)))) (ap faultOf (sym z) ∙ f)
-              ∙ unrolled;
-        }
+      -- one move further
+      pub next : {cur′ l′ : List ℕ} → MovedTo cur a x cur′ l′ → Following s g list n (k + 1) cur′ l′
+      next {cur′} m =
+          let p = w .known .problem in
+          let long : length cur′ ≡ length cur = ap length (m .state) ∙ length-put cur a x in
+          record {
+            known =
+                record {
+                  problem = record { small = omega (arith, long, p .small); problem = rw (m .state) (problem-moved legal (p .problem)) };
+                  even = w .known .even;
+                  loads = m .loads;
+                };
+            all = w .all;
+            within = omega arith;
+            answer =
+                ap₂ (λ j t. replayFrom (suc j) t g (moves (drop (2 * (k + 1)) list))) (add-one k) (m .state)
+                ∙ ap (λ q. orBad q (suc k) onward) (ap faultOf (sym z) ∙ f)
+                ∙ unrolled;
+          }
 
   -- at the end the state is compared with the goal
-  ended : n ≤ k → arrival (firstDifference cur g) ≡ replayFrom 1 s g (moves lifts)
+  ended : n ≤ k → arrival (firstDifference cur g) ≡ replayFrom 1 s g (moves list)
   unfolding replayFrom
   ended h =
-      let over : length lifts ≤ 2 * k = omega (arith, w .all, w .even) in
-      sym (ap (λ r. replayFrom (suc k) cur g (moves r)) (drop-of-length-le lifts over)) ∙ w .answer
+      let over : length list ≤ 2 * k = omega (arith, w .all, w .known .even) in
+      sym (ap (λ r. replayFrom (suc k) cur g (moves r)) (drop-of-length-le list over)) ∙ w .answer
 
-  pub differs-way : {p : ℕ} → n ≤ k → p ≡ firstDifference cur g → p ≢ 0 → Follows s g lifts (Judged 5 p)
+  pub differs-way : {p : ℕ} → n ≤ k → p ≡ firstDifference cur g → p ≢ 0 → Follows s g list (Judged 5 p)
   differs-way {p} h e m = by p e m
     where
-      by : (q : ℕ) → q ≡ firstDifference cur g → q ≢ 0 → Follows s g lifts (Judged 5 q)
+      by : (q : ℕ) → q ≡ firstDifference cur g → q ≢ 0 → Follows s g list (Judged 5 q)
       by zero f z = absurd (z refl)
       by (suc q) f z = record { judged = refl; answer = ap arrival f ∙ ended h }
 
-  pub arrives-way : {p : ℕ} → n ≤ k → p ≡ firstDifference cur g → p ≡ 0 → Follows s g lifts (Judged 0 0)
+  pub arrives-way : {p : ℕ} → n ≤ k → p ≡ firstDifference cur g → p ≡ 0 → Follows s g list (Judged 0 0)
   arrives-way h e z = record { judged = refl; answer = ap arrival (sym z ∙ e) ∙ ended h }

@@ -1,9 +1,14 @@
 // Replay of a list of moves (document 01, "What is lent and written"): linear in the blocks and the list, memory fixed.
 ghost use mathlib.Core.Path.{_≡_};
 ghost use Rattle.blocks.specs.Question.{firstNo};
-ghost use Rattle.blocks.specs.Answer.{moveQuestions};
-ghost use Rattle.validator.specs.Replayed.{faultOf, Replays, Follows, Judgeable, JudgeableIn, Current, Followable};
+ghost use Rattle.blocks.specs.Replay.{moveQuestions};
+ghost use Rattle.problem.specs.Known.{Loads};
+ghost use Rattle.validator.specs.Replayed.{faultOf, Replays, Replayable, Follows};
 use problem::Checked;
+use rows::CHECKED;
+use rows::LOADS;
+use rows::MOST;
+use rows::ROW;
 
 // The answer to a replay: the number and place of the first "no", or a verdict with its place.
 pub enum Replayed {
@@ -12,82 +17,53 @@ pub enum Replayed {
 }
 
 // Questions 2 to 9 and 11, and then the verdict of the list, for any three lists.
-pub fn validate(initial: &[u16], goal: &[u16], lifts: &[u16]) -> Replayed
-    ensures { λ r. ⌜ Replays (now (initial .entry)) (now (goal .entry)) (now (lifts .entry)) r ⌝ }
+pub fn validate(initial: &[u16], goal: &[u16], moves: &[u16]) -> Replayed
+    ensures { λ r. ⌜ Replays (now (initial .entry)) (now (goal .entry)) (now (moves .entry)) r ⌝ }
 {
-    let mut load = [0u16; 4001];
-    let mut wanted = [0u16; 4001];
-    let mut stands = [0u16; 4001];
-    let mut spare = [0u16; 4001];
-    let checked = problem::examine(
-        initial,
-        goal,
-        &mut load,
-        &mut wanted,
-        &mut stands,
-        &mut spare,
-    );
+    let mut rows = [[0u16; ROW]; CHECKED];
+    let checked = problem::examine(initial, goal, &mut rows);
     if let Checked::Refused { number, place } = checked {
         return Replayed::Refused { number, place };
     }
-    if lifts.len() % 2 != 0 {
+    if moves.len() % 2 != 0 {
         return Replayed::Refused {
             number: 11,
             place: 0,
         };
     }
-    let mut cur = [0u16; 4000];
-    judge(initial, goal, lifts, &mut cur, &mut load)
+    judge(initial, goal, moves, &mut rows[LOADS])
 }
 
-// The verdict of a list of pairs for an accepted problem, over lent lists for the current state and its loads.
-fn judge(
-    initial: &[u16],
-    goal: &[u16],
-    lifts: &[u16],
-    cur: &mut [u16],
-    load: &mut [u16],
-) -> Replayed
-    requires { ⌜ Judgeable (now initial) (now goal) (now lifts) (now cur) (now load) ⌝ }
-    ensures { λ r. ⌜ Follows (now (initial .entry)) (now (goal .entry)) (now (lifts .entry)) r ⌝ }
+// The verdict of a list of pairs, for a problem already checked and the loads of its initial state, which follow the moves.
+pub fn judge(initial: &[u16], goal: &[u16], moves: &[u16], loads: &mut [u16]) -> Replayed
+    requires { ⌜ Replayable (now initial) (now goal) (now moves) (now loads) ⌝ }
+    ensures { λ r. ⌜ Follows (now (initial .entry)) (now (goal .entry)) (now (moves .entry)) r ⌝ }
 {
     let n = initial.len();
-    judge_in(initial, goal, lifts, &mut cur[..n], load)
+    let mut room = [0u16; MOST];
+    let cur = &mut room[..n];
+    lists::copy(initial, cur);
+    follow(cur, goal, moves, loads)
 }
 
-// The same, with a list just long enough for the state.
-fn judge_in(
-    initial: &[u16],
-    goal: &[u16],
-    lifts: &[u16],
-    cur: &mut [u16],
-    load: &mut [u16],
-) -> Replayed
-    requires { ⌜ JudgeableIn (now initial) (now goal) (now lifts) (now cur) (now load) ⌝ }
-    ensures { λ r. ⌜ Follows (now (initial .entry)) (now (goal .entry)) (now (lifts .entry)) r ⌝ }
+// The same from the current state on, which the moves change.
+fn follow(cur: &mut [u16], goal: &[u16], moves: &[u16], loads: &mut [u16]) -> Replayed
+    requires { ⌜ Replayable (now cur) (now goal) (now moves) (now loads) ⌝ }
+    ensures { λ r. ⌜ Follows (now (cur .entry)) (now (goal .entry)) (now (moves .entry)) r ⌝ }
 {
-    problem::copy(initial, cur);
-    follow(cur, goal, load, lifts)
-}
-
-// The verdict of a list of pairs from the current state on.
-fn follow(cur: &mut [u16], goal: &[u16], load: &mut [u16], lifts: &[u16]) -> Replayed
-    requires { ⌜ Followable (now cur) (now goal) (now load) (now lifts) ⌝ }
-    ensures { λ r. ⌜ Follows (now (cur .entry)) (now (goal .entry)) (now (lifts .entry)) r ⌝ }
-{
-    let count = lifts.len() / 2;
+    let count = moves.len() / 2;
     let mut k = 0;
     while k < count {
-        let a = problem::wide(lifts[2 * k]);
-        let x = problem::wide(lifts[2 * k + 1]);
-        let verdict = fault(cur, load, a, x);
+        let a = lists::wide(moves[2 * k]);
+        let x = lists::wide(moves[2 * k + 1]);
+        let verdict = fault(cur, loads, a, x);
         if verdict != 0 {
             return Replayed::Judged {
                 verdict,
                 place: k + 1,
             };
         }
-        problem::make_move(cur, load, a, x);
+        problem::make_move(cur, loads, a, x);
         k += 1;
     }
     let p = problem::first_difference(cur, goal);
@@ -104,8 +80,8 @@ fn follow(cur: &mut [u16], goal: &[u16], load: &mut [u16], lifts: &[u16]) -> Rep
 }
 
 // What is wrong with a move of a to x, in the order of document 01's tests; 0 where it is legal.
-fn fault(cur: &[u16], load: &[u16], a: usize, x: usize) -> u16
-    requires { ⌜ Current (now cur) (now load) ⌝ }
+fn fault(cur: &[u16], loads: &[u16], a: usize, x: usize) -> u16
+    requires { ⌜ Loads (now cur) (now loads) ⌝ }
     ensures { λ r. ⌜ faultOf r ≡ firstNo (moveQuestions (now (cur .entry)) a x) ⌝ }
 {
     let n = cur.len();
@@ -118,16 +94,16 @@ fn fault(cur: &[u16], load: &[u16], a: usize, x: usize) -> u16
     if n < x {
         return 1;
     }
-    if load[a] != 0 {
+    if loads[a] != 0 {
         return 2;
     }
-    if x == problem::wide(cur[a - 1]) {
+    if x == lists::wide(cur[a - 1]) {
         return 3;
     }
     if x == a {
         return 4;
     }
-    if problem::taken(load, x) {
+    if problem::taken(loads, x) {
         return 4;
     }
     0

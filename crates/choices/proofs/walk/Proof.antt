@@ -1,75 +1,80 @@
--- `walk` meets its contract. The invariant: `Walking` of WalkLaws. The measure: how many visits there can still be. Assumes nothing.
+-- `walk` meets its contract. The invariant: `Follows` of WalkLaws. The measure: how many visits there can still be. Assumes nothing.
 use borrow.Author.Needs.{needs}
+use Prim.Native.Nat.{_-_}
 use native.Mathlib.Omega.{arith}
-use Prim.Native.Nat.{_+_, _-_}
-use lib.ListN.{length}
-use Rattle.choices.proofs.WalkLaws.{Walking, begin, may-find, room, next, finish}
+use Rattle.rows.specs.Rows.{rowSize}
+use Rattle.rows.proofs.RowLaws.{scaled}
+use Rattle.choices.proofs.WalkLaws.{Follows, follows-begin, block-in, number-fits, block-fits, count-in, findable, follows-next, walked}
 use Rattle.choices.proofs.walk.Statement.{statement}
 use Rattle.choices.proofs.walk.Tie as tie
 
 abbrev Inv-loop : tie.InvT-loop
-Inv-loop cur goal load wanted bottoms tops roots highs seen₀ marks₀ start m b₀ k₀ seen marks b k =
-    Walking cur goal seen₀ marks₀ seen marks m b k
+Inv-loop yard₀ start m b₀ k₀ yard b k = Follows start m yard₀ b k yard
 
 abbrev μ-loop : tie.MeasureT-loop
-μ-loop cur goal load wanted bottoms tops roots highs seen₀ marks₀ start m b₀ k₀ seen marks b k = (length cur + 1) - k
+μ-loop yard₀ start m b₀ k₀ yard b k = rowSize - k
 
 loop-holds : tie.Need-loop-holds Inv-loop μ-loop
-loop-holds c = search (needs, begin)
+loop-holds c = search (needs, follows-begin)
 
 mul-wide : tie.Need-mul-wide Inv-loop μ-loop
-mul-wide c = search needs
+mul-wide c = search (needs, scaled, block-in)
 
-slice-read-wide : tie.Need-slice-read-wide Inv-loop μ-loop
-slice-read-wide c = search needs
+index-1-wide : tie.Need-index-1-wide Inv-loop μ-loop
+index-1-wide c = search needs
+
+index-2-wide : tie.Need-index-2-wide Inv-loop μ-loop
+index-2-wide c = search (needs, block-in)
 
 wide-requires : tie.Need-wide-requires Inv-loop μ-loop
 wide-requires c κs = search needs
 
-cast-marks : tie.Need-cast-marks Inv-loop μ-loop
-cast-marks c = search needs
+cast-yard : tie.Need-cast-yard Inv-loop μ-loop
+cast-yard c = search (needs, number-fits)
 
-mul-marks : tie.Need-mul-marks Inv-loop μ-loop
-mul-marks c = search needs
+mul-yard : tie.Need-mul-yard Inv-loop μ-loop
+mul-yard c = search (needs, scaled, block-in)
 
-slice-write-marks : tie.Need-slice-write-marks Inv-loop μ-loop
-slice-write-marks c = search needs
+index-1-yard : tie.Need-index-1-yard Inv-loop μ-loop
+index-1-yard c = search needs
 
-cast-seen : tie.Need-cast-seen Inv-loop μ-loop
-cast-seen c = search needs
+index-2-yard : tie.Need-index-2-yard Inv-loop μ-loop
+index-2-yard c = search (needs, block-in)
 
-mul-seen : tie.Need-mul-seen Inv-loop μ-loop
-mul-seen c = search needs
+cast-yard-2 : tie.Need-cast-yard-2 Inv-loop μ-loop
+cast-yard-2 c = search (needs, block-fits)
 
-slice-write-seen : tie.Need-slice-write-seen Inv-loop μ-loop
-slice-write-seen c = omega (arith, room (c .before .before .before .loop .inv) (c .before .wide .ensures) (c .if1 .taken))
+mul-yard-2 : tie.Need-mul-yard-2 Inv-loop μ-loop
+mul-yard-2 c = scaled (omega (arith, count-in (c .before .before .before .loop .inv) (c .before .wide .ensures) (c .if1 .taken)))
+
+index-1-yard-2 : tie.Need-index-1-yard-2 Inv-loop μ-loop
+index-1-yard-2 c = search needs
+
+index-2-yard-2 : tie.Need-index-2-yard-2 Inv-loop μ-loop
+index-2-yard-2 c = omega (arith, count-in (c .before .before .before .loop .inv) (c .before .wide .ensures) (c .if1 .taken))
 
 add-k : tie.Need-add-k Inv-loop μ-loop
-add-k c = search needs
+add-k c = record { fits = omega (arith, count-in (c .before .before .before .loop .inv) (c .before .wide .ensures) (c .if1 .taken)) }
 
 find-requires : tie.Need-find-requires Inv-loop μ-loop
-find-requires c κs =
-    let a = c .before .before .before in
-    let d = a .before .before .before .before .before .before in
-    may-find (d .before .before .before .before .before .pre) (a .loop .inv)
+find-requires c κs = search (needs, findable)
 
 loop-less : tie.Need-loop-less Inv-loop μ-loop
-loop-less c = search needs
+loop-less c =
+    let d = c .before .before in
+    omega (arith, count-in (d .before .before .before .loop .inv) (d .before .wide .ensures) (d .if1 .taken))
 
 loop-again : tie.Need-loop-again Inv-loop μ-loop
-loop-again c = search (needs, next)
+loop-again c = search (needs, follows-next)
+
+index-1-index-of : tie.Need-index-1-index-of Inv-loop μ-loop
+index-1-index-of c = search needs
 
 index-of-requires : tie.Need-index-of-requires Inv-loop μ-loop
 index-of-requires c κs = search needs
 
-same-length : tie.Need-same-length Inv-loop μ-loop
-same-length c = search needs
-
-same-length-2 : tie.Need-same-length-2 Inv-loop μ-loop
-same-length-2 c = search needs
-
 returns : tie.Need-returns Inv-loop μ-loop
-returns c = search (needs, finish)
+returns c = search (needs, walked)
 
 pub walk-spec : {M : Type 1} → statement M
 walk-spec =
@@ -79,19 +84,21 @@ walk-spec =
     μ-loop
     loop-holds
     mul-wide
-    slice-read-wide
+    index-1-wide
+    index-2-wide
     wide-requires
-    cast-marks
-    mul-marks
-    slice-write-marks
-    cast-seen
-    mul-seen
-    slice-write-seen
+    cast-yard
+    mul-yard
+    index-1-yard
+    index-2-yard
+    cast-yard-2
+    mul-yard-2
+    index-1-yard-2
+    index-2-yard-2
     add-k
     find-requires
     loop-less
     loop-again
+    index-1-index-of
     index-of-requires
-    same-length
-    same-length-2
     returns)

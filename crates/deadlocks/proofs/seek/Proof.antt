@@ -1,79 +1,84 @@
--- `seek` meets its contract: it lends the front of the list for the state. Assumes nothing.
+-- `seek` meets its contract: a copy of the state is built, and looked at. Assumes nothing.
 use borrow.Author.Needs.{needs}
-use Rattle.runs.proofs.LentLaws.{part-length, whole-length}
-use Rattle.deadlocks.proofs.SeekLaws.{state-fits, seekable}
+use mathlib.Core.Path.{ap, _∙_}
+use lib.ListN.{length}
+use lib.Seq.{length-take-le}
+use Rattle.deadlocks.proofs.SeekLaws.{may-begin, first-steppable, still, loose-may, clean-way, refittable, lookable, look-way}
 use Rattle.deadlocks.proofs.seek.Statement.{statement}
 use Rattle.deadlocks.proofs.seek.Tie as tie
 
-slice-relend-prefix-seek-in : tie.Need-slice-relend-prefix-seek-in
-slice-relend-prefix-seek-in c = search (needs, state-fits)
+array-borrow-prefix-room : tie.Need-array-borrow-prefix-room
+array-borrow-prefix-room c = search needs
 
-slice-aggregate-seek-in : tie.Need-slice-aggregate-seek-in
-slice-aggregate-seek-in c = part-length (c .before .before .before .before .before .before .before .before .before .before .before .before .before .before .before .before .before .pre .lists)
+slice-aggregate-cur : tie.Need-slice-aggregate-cur
+slice-aggregate-cur c = search (needs, length-take-le)
 
-seek-in-requires : tie.Need-seek-in-requires
-seek-in-requires c κs = seekable (c .before .before .before .before .before .before .before .before .before .before .before .before .before .before .before .before .before .before .before .before .before .before .before .before .before .before .before .before .before .pre)
+begin-requires : tie.Need-begin-requires
+begin-requires c κs = may-begin (c .before .before .before .before .before .before .before .pre) (search (needs, length-take-le)) (search needs)
 
-same-length : tie.Need-same-length
-same-length c = search (whole-length (c .before .before .before .before .before .before .before .before .before .before .before .before .before .before .before .before .before .before .before .before .before .before .before .before .before .before .before .before .before .before .before .before .before .before .before .before .before .before .before .before .before .before .before .before .before .before .before .before .before .before .before .before .before .before .before .before .pre .lists), (c .before .before .before .before .before .before .before .before .before .before .before .before .before .before .before .before .before .before .before .before .before .before .before .before .before .before .seek-in .kept .1 .1 .0))
+slice-aggregate-run : tie.Need-slice-aggregate-run
+slice-aggregate-run c = search needs
 
-same-length-2 : tie.Need-same-length-2
-same-length-2 c = c .before .before .before .before .before .before .before .before .before .before .before .before .before .before .before .before .before .before .before .before .before .before .before .before .before .before .seek-in .kept .1 .1 .1 .0
+run-requires : tie.Need-run-requires
+run-requires c κs = search (needs, first-steppable)
 
-same-length-3 : tie.Need-same-length-3
-same-length-3 c = c .before .before .before .before .before .before .before .before .before .before .before .before .before .before .before .before .before .before .before .before .before .before .before .before .before .before .seek-in .kept .1 .1 .1 .1 .1 .0
+index-1-lowest : tie.Need-index-1-lowest
+index-1-lowest c = search needs
 
-same-length-4 : tie.Need-same-length-4
-same-length-4 c = c .before .before .before .before .before .before .before .before .before .before .before .before .before .before .before .before .before .before .before .before .before .before .before .before .before .before .seek-in .kept .1 .1 .1 .1 .1 .1 .0
-
-same-length-5 : tie.Need-same-length-5
-same-length-5 c = c .before .before .before .before .before .before .before .before .before .before .before .before .before .before .before .before .before .before .before .before .before .before .before .before .before .before .seek-in .kept .1 .1 .1 .1 .1 .1 .1 .0
-
-same-length-6 : tie.Need-same-length-6
-same-length-6 c = c .before .before .before .before .before .before .before .before .before .before .before .before .before .before .before .before .before .before .before .before .before .before .before .before .before .before .seek-in .kept .1 .1 .1 .1 .1 .1 .1 .1 .0
-
-same-length-7 : tie.Need-same-length-7
-same-length-7 c = c .before .before .before .before .before .before .before .before .before .before .before .before .before .before .before .before .before .before .before .before .before .before .before .before .before .before .seek-in .kept .1 .1 .1 .1 .1 .1 .1 .1 .1 .0
-
-same-length-8 : tie.Need-same-length-8
-same-length-8 c = c .before .before .before .before .before .before .before .before .before .before .before .before .before .before .before .before .before .before .before .before .before .before .before .before .before .before .seek-in .kept .1 .1 .1 .1 .1 .1 .1 .1 .1 .1 .0
-
-same-length-9 : tie.Need-same-length-9
-same-length-9 c = c .before .before .before .before .before .before .before .before .before .before .before .before .before .before .before .before .before .before .before .before .before .before .before .before .before .before .seek-in .kept .1 .1 .1 .1 .1 .1 .1 .1 .1 .1 .1 .0
-
-same-length-10 : tie.Need-same-length-10
-same-length-10 c = c .before .before .before .before .before .before .before .before .before .before .before .before .before .before .before .before .before .before .before .before .before .before .before .before .before .before .seek-in .kept .1 .1 .1 .1 .1 .1 .1 .1 .1 .1 .1 .1 .0
-
-same-length-11 : tie.Need-same-length-11
-same-length-11 c = c .before .before .before .before .before .before .before .before .before .before .before .before .before .before .before .before .before .before .before .before .before .before .before .before .before .before .seek-in .kept .1 .1 .1 .1 .1 .1 .1 .1 .1 .1 .1 .1 .1 .0
-
-same-length-12 : tie.Need-same-length-12
-same-length-12 c = c .before .before .before .before .before .before .before .before .before .before .before .before .before .before .before .before .before .before .before .before .before .before .before .before .before .before .seek-in .kept .1 .1 .1 .1 .1 .1 .1 .1 .1 .1 .1 .1 .1 .1 .0
-
-same-length-13 : tie.Need-same-length-13
-same-length-13 c = c .before .before .before .before .before .before .before .before .before .before .before .before .before .before .before .before .before .before .before .before .before .before .before .before .before .before .seek-in .kept .1 .1 .1 .1 .1 .1 .1 .1 .1 .1 .1 .1 .1 .1 .1 .0
+lowest-requires : tie.Need-lowest-requires
+lowest-requires c κs =
+    let r = c .before .before .before .before .before in
+    let e = r .before .before .before .before .before .before .before in
+    let w = e .before .before .before .before .before .before .before .before .pre in
+    loose-may w (e .begin .ensures) (r .run .ensures)
 
 returns : tie.Need-returns
-returns c = c .before .before .before .before .before .before .before .before .before .before .before .before .before .before .before .before .before .before .before .before .before .before .before .before .before .before .seek-in .ensures
+returns c =
+    let r = c .before .before .before .before .before .before .before .before in
+    let e = r .before .before .before .before .before .before .before in
+    let w = e .before .before .before .before .before .before .before .before .pre in
+    clean-way w (e .begin .ensures) (r .run .ensures) (c .before .before .lowest .ensures) (c .before .if1 .taken)
+
+fit-requires : tie.Need-fit-requires
+fit-requires c κs =
+    let r = c .before .before .before .before .before .before .before .before .before .before in
+    let e = r .before .before .before .before .before .before .before in
+    let w = e .before .before .before .before .before .before .before .before .pre in
+    refittable w (e .begin .ensures) (r .run .ensures)
+
+look-requires : tie.Need-look-requires
+look-requires c κs =
+    let r = c .before .before .before .before .before .before .before .before .before .before .before .before .before .before .before in
+    let e = r .before .before .before .before .before .before .before in
+    let w = e .before .before .before .before .before .before .before .before .pre in
+    lookable w (e .begin .ensures) (r .run .ensures) (r .run .kept .1 .0 ∙ ap length (e .begin .ensures .state)) (c .before .before .before .before .fit .ensures)
+
+same-length : tie.Need-same-length
+same-length c = search needs
+
+returns-2 : tie.Need-returns-2
+returns-2 c =
+    let f = c .before .before .before .before .before .before .before in
+    let r = f .before .before .before .before .before .before .before .before .before .before .before in
+    let e = r .before .before .before .before .before .before .before in
+    let w = e .before .before .before .before .before .before .before .before .pre in
+    let calm = still w (e .begin .ensures) (r .run .ensures) in
+    look-way w (e .begin .ensures) (r .run .ensures) (r .run .kept .1 .0 ∙ ap length (e .begin .ensures .state))
+    (f .fit .ensures) (c .before .before .look .ensures _ _ (f .fit .ensures .kept) calm)
 
 pub seek-spec : {M : Type 1} → statement M
 seek-spec =
     tie.close
     (tie.spec
-    slice-relend-prefix-seek-in
-    slice-aggregate-seek-in
-    seek-in-requires
+    array-borrow-prefix-room
+    slice-aggregate-cur
+    begin-requires
+    slice-aggregate-run
+    run-requires
+    index-1-lowest
+    lowest-requires
+    returns
+    fit-requires
+    look-requires
     same-length
-    same-length-2
-    same-length-3
-    same-length-4
-    same-length-5
-    same-length-6
-    same-length-7
-    same-length-8
-    same-length-9
-    same-length-10
-    same-length-11
-    same-length-12
-    same-length-13
-    returns)
+    returns-2)

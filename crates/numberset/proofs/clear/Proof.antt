@@ -2,16 +2,17 @@
 use mathlib.Core.Path.{_≡_}
 use Prim.Native.Nat.{ℕ, _≤_, _<_, _-_}
 use lib.ListN.{length, getD}
+use Rattle.numberset.specs.Members.{wordCount}
 use Rattle.numberset.proofs.MemberLaws.{cleared, clear-more}
 use borrow.Author.Needs.{needs}
 use Rattle.numberset.proofs.clear.Statement.{statement}
 use Rattle.numberset.proofs.clear.Tie as tie
 
 abbrev Inv-loop : tie.InvT-loop
-Inv-loop set₀ i₀ set i = (length set ≡ 65) × (i ≤ 65) × ((k : ℕ) → k < i → getD set k 0 ≡ 0)
+Inv-loop set₀ i₀ set i = (length set ≡ wordCount) × (i ≤ wordCount) × ((k : ℕ) → k < i → getD set k 0 ≡ 0)
 
 abbrev μ-loop : tie.MeasureT-loop
-μ-loop set₀ i₀ set i = 65 - i
+μ-loop set₀ i₀ set i = wordCount - i
 
 loop-holds : tie.Need-loop-holds Inv-loop μ-loop
 loop-holds c = search needs

@@ -1,33 +1,42 @@
--- `climb` meets its contract. The invariant: `Climbing` of ClimbLaws, and `stands` is as long as at the start. Assumes nothing.
+-- `climb` meets its contract. The invariant: `Rising` of ClimbLaws. Assumes nothing.
 use borrow.Author.Needs.{needs}
-use mathlib.Core.Path.{_≡_, _∙_}
-use lib.ListN.{length, length-set}
-use Rattle.problem.proofs.ClimbLaws.{Climbing, left, begin, look, step, fewer, finish, may-stand}
+use Prim.Native.Nat.{_+_}
+use denote.Ref.{now}
+use Rattle.rows.specs.Rows.{row}
+use Rattle.problem.proofs.ClimbLaws.{Rising, left, rise-begin, rise-length, rise-look, rise-end, loads-in, rise-step, rise-fewer, may-stand, block-in}
 use Rattle.problem.proofs.climb.Statement.{statement}
 use Rattle.problem.proofs.climb.Tie as tie
 
 abbrev Inv-loop : tie.InvT-loop
-Inv-loop s goal load stands₀ n block₀ next₀ stands block next = Climbing s goal n block next stands × (length stands ≡ length stands₀)
+Inv-loop s goal rows₀ loads stands n block₀ next₀ below₀ rows block next below = Rising s goal loads rows₀ n block next below rows
 
 abbrev μ-loop : tie.MeasureT-loop
-μ-loop s goal load stands₀ n block₀ next₀ stands block next = left s stands next
+μ-loop s goal rows₀ loads stands n block₀ next₀ below₀ rows block next below = left s (row rows (loads + 1)) next
 
-zero-requires : tie.Need-zero-requires Inv-loop μ-loop
-zero-requires c κs = search needs
+add-stands : tie.Need-add-stands Inv-loop μ-loop
+add-stands c = search needs
 
-slice-write-stands : tie.Need-slice-write-stands Inv-loop μ-loop
-slice-write-stands c = search needs
+mul-rows : tie.Need-mul-rows Inv-loop μ-loop
+mul-rows c = search needs
+
+index-1-rows : tie.Need-index-1-rows Inv-loop μ-loop
+index-1-rows c = search needs
+
+index-2-rows : tie.Need-index-2-rows Inv-loop μ-loop
+index-2-rows c = search needs
 
 loop-holds : tie.Need-loop-holds Inv-loop μ-loop
-loop-holds c = search (needs, begin)
+loop-holds c = search (needs, rise-begin)
 
 same-length : tie.Need-same-length Inv-loop μ-loop
 same-length c =
     let a = c .before .before in
-    (simp length-set at (a .loop .inv .1)) ∙ a .before .before .before .zero .kept .0
+    rise-length (now (a .before .before .before .args .rows)) (a .loop .inv)
 
 returns : tie.Need-returns Inv-loop μ-loop
-returns c = search (needs, finish)
+returns c =
+    let a = c .before .before in
+    rise-end (now (a .before .before .before .args .rows)) (a .loop .inv) (search needs) (search needs)
 
 on-table-requires : tie.Need-on-table-requires Inv-loop μ-loop
 on-table-requires c κs = search needs
@@ -39,33 +48,43 @@ loop-less : tie.Need-loop-less Inv-loop μ-loop
 loop-less c = search needs
 
 loop-again : tie.Need-loop-again Inv-loop μ-loop
-loop-again c = search (needs, look)
+loop-again c = search (needs, rise-look)
 
 stand-requires : tie.Need-stand-requires Inv-loop μ-loop
-stand-requires c κs =
-    let a = c .before .before in
-    may-stand (a .before .before .before .before .before .before .before .before .before .pre) (a .loop .inv .0) (c .before .if1 .left)
+stand-requires c κs = search (needs, may-stand)
 
-mul-stands : tie.Need-mul-stands Inv-loop μ-loop
-mul-stands c = search needs
+mul-rows-2 : tie.Need-mul-rows-2 Inv-loop μ-loop
+mul-rows-2 c = search needs
 
-slice-write-stands-2 : tie.Need-slice-write-stands-2 Inv-loop μ-loop
-slice-write-stands-2 c = search needs
+mul-rows-3 : tie.Need-mul-rows-3 Inv-loop μ-loop
+mul-rows-3 c = search (needs, block-in)
+
+index-1-rows-2 : tie.Need-index-1-rows-2 Inv-loop μ-loop
+index-1-rows-2 c = search needs
+
+index-2-rows-2 : tie.Need-index-2-rows-2 Inv-loop μ-loop
+index-2-rows-2 c = search (needs, block-in)
 
 mul-wide : tie.Need-mul-wide Inv-loop μ-loop
 mul-wide c = search needs
 
-shared-slice-read-wide : tie.Need-shared-slice-read-wide Inv-loop μ-loop
-shared-slice-read-wide c = search needs
+mul-wide-2 : tie.Need-mul-wide-2 Inv-loop μ-loop
+mul-wide-2 c = search (needs, block-in)
+
+index-1-wide : tie.Need-index-1-wide Inv-loop μ-loop
+index-1-wide c = loads-in (c .before .before .loop .inv) (c .before .if1 .left) (c .stand .result)
+
+index-2-wide : tie.Need-index-2-wide Inv-loop μ-loop
+index-2-wide c = search (needs, block-in)
 
 wide-requires : tie.Need-wide-requires Inv-loop μ-loop
 wide-requires c κs = search needs
 
 loop-less-2 : tie.Need-loop-less-2 Inv-loop μ-loop
-loop-less-2 c = search (needs, fewer)
+loop-less-2 c = search (needs, rise-fewer)
 
 loop-again-2 : tie.Need-loop-again-2 Inv-loop μ-loop
-loop-again-2 c = search (needs, step)
+loop-again-2 c = search (needs, rise-step)
 
 pub climb-spec : {M : Type 1} → statement M
 climb-spec =
@@ -73,8 +92,10 @@ climb-spec =
     (tie.spec
     Inv-loop
     μ-loop
-    zero-requires
-    slice-write-stands
+    add-stands
+    mul-rows
+    index-1-rows
+    index-2-rows
     loop-holds
     same-length
     returns
@@ -83,10 +104,14 @@ climb-spec =
     loop-less
     loop-again
     stand-requires
-    mul-stands
-    slice-write-stands-2
+    mul-rows-2
+    mul-rows-3
+    index-1-rows-2
+    index-2-rows-2
     mul-wide
-    shared-slice-read-wide
+    mul-wide-2
+    index-1-wide
+    index-2-wide
     wide-requires
     loop-less-2
     loop-again-2)

@@ -1,7 +1,8 @@
 -- `first_difference` meets its contract. The invariant: the blocks from 1 to i have the same support in the goal. Assumes nothing.
 use borrow.Author.Needs.{needs}
 use Prim.Native.Nat.{_-_}
-use Rattle.problem.proofs.DifferenceLaws.{Compared, compared-begin, compared-next, compared-found, compared-all}
+use Rattle.lists.proofs.ScanLaws.{sweep-none}
+use Rattle.problem.proofs.CountLaws.{Compared, compared-begin, compared-next, compared-found, compared-all}
 use Rattle.problem.proofs.first_difference.Statement.{statement}
 use Rattle.problem.proofs.first_difference.Tie as tie
 
@@ -11,26 +12,32 @@ Inv-loop s goal n i₀ i = Compared s goal n i
 abbrev μ-loop : tie.MeasureT-loop
 μ-loop s goal n i₀ i = n - i
 
+any-difference-requires : tie.Need-any-difference-requires Inv-loop μ-loop
+any-difference-requires c κs = search needs
+
+returns : tie.Need-returns Inv-loop μ-loop
+returns c = search (needs, sweep-none)
+
 loop-holds : tie.Need-loop-holds Inv-loop μ-loop
 loop-holds c = search (needs, compared-begin)
 
-mul-if1 : tie.Need-mul-if1 Inv-loop μ-loop
-mul-if1 c = search needs
+mul-if2 : tie.Need-mul-if2 Inv-loop μ-loop
+mul-if2 c = search needs
 
-shared-slice-read-if1 : tie.Need-shared-slice-read-if1 Inv-loop μ-loop
-shared-slice-read-if1 c = search needs
+shared-slice-read-if2 : tie.Need-shared-slice-read-if2 Inv-loop μ-loop
+shared-slice-read-if2 c = search needs
 
-mul-if1-2 : tie.Need-mul-if1-2 Inv-loop μ-loop
-mul-if1-2 c = search needs
+mul-if2-2 : tie.Need-mul-if2-2 Inv-loop μ-loop
+mul-if2-2 c = search needs
 
-shared-slice-read-if1-2 : tie.Need-shared-slice-read-if1-2 Inv-loop μ-loop
-shared-slice-read-if1-2 c = search needs
+shared-slice-read-if2-2 : tie.Need-shared-slice-read-if2-2 Inv-loop μ-loop
+shared-slice-read-if2-2 c = search needs
 
 add-result : tie.Need-add-result Inv-loop μ-loop
 add-result c = search needs
 
-returns : tie.Need-returns Inv-loop μ-loop
-returns c = search (needs, compared-found)
+returns-2 : tie.Need-returns-2 Inv-loop μ-loop
+returns-2 c = search (needs, compared-found)
 
 add-i : tie.Need-add-i Inv-loop μ-loop
 add-i c = search needs
@@ -41,8 +48,8 @@ loop-less c = search needs
 loop-again : tie.Need-loop-again Inv-loop μ-loop
 loop-again c = search (needs, compared-next)
 
-returns-2 : tie.Need-returns-2 Inv-loop μ-loop
-returns-2 c = search (needs, compared-all)
+returns-3 : tie.Need-returns-3 Inv-loop μ-loop
+returns-3 c = search (needs, compared-all)
 
 pub first-difference-spec : {M : Type 1} → statement M
 first-difference-spec =
@@ -50,14 +57,16 @@ first-difference-spec =
     (tie.spec
     Inv-loop
     μ-loop
-    loop-holds
-    mul-if1
-    shared-slice-read-if1
-    mul-if1-2
-    shared-slice-read-if1-2
-    add-result
+    any-difference-requires
     returns
+    loop-holds
+    mul-if2
+    shared-slice-read-if2
+    mul-if2-2
+    shared-slice-read-if2-2
+    add-result
+    returns-2
     add-i
     loop-less
     loop-again
-    returns-2)
+    returns-3)

@@ -1,15 +1,15 @@
 -- `misplaced` meets its contract. The invariant: c of the blocks from 1 to i are misplaced. Assumes nothing.
 use borrow.Author.Needs.{needs}
 use Prim.Native.Nat.{_-_}
-use Rattle.problem.proofs.CountLaws.{Misplacing, misplacing-begin, misplacing-in, misplacing-next, misplacing-fits, misplacing-end}
+use Rattle.problem.proofs.CountLaws.{Misplacing, misplacing-begin, misplacing-next, misplacing-fits, misplacing-end}
 use Rattle.problem.proofs.misplaced.Statement.{statement}
 use Rattle.problem.proofs.misplaced.Tie as tie
 
 abbrev Inv-loop : tie.InvT-loop
-Inv-loop s goal stands n c₀ i₀ c i = Misplacing s goal stands n c i
+Inv-loop stands n c₀ i₀ c i = Misplacing stands n c i
 
 abbrev μ-loop : tie.MeasureT-loop
-μ-loop s goal stands n c₀ i₀ c i = n - i
+μ-loop stands n c₀ i₀ c i = n - i
 
 loop-holds : tie.Need-loop-holds Inv-loop μ-loop
 loop-holds c = search (needs, misplacing-begin)
@@ -21,7 +21,7 @@ mul-c : tie.Need-mul-c Inv-loop μ-loop
 mul-c c = search needs
 
 shared-slice-read-c : tie.Need-shared-slice-read-c Inv-loop μ-loop
-shared-slice-read-c c = search (needs, misplacing-in)
+shared-slice-read-c c = search needs
 
 cast-c : tie.Need-cast-c Inv-loop μ-loop
 cast-c c = search needs

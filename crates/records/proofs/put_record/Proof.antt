@@ -3,7 +3,9 @@ use borrow.Author.Needs.{needs}
 use denote.Ref.{now}
 use mathlib.Core.Path.{_∙_}
 use native.Mathlib.Omega.{arith}
-use Rattle.records.proofs.WriteLaws.{room-mark, room-first, kept-first, room-second, put-one, put-two}
+use lib.ListN.{length-set}
+use Rattle.records.proofs.MarkLaws.{fields-low, size-two}
+use Rattle.records.proofs.WriteLaws.{put-one, put-two}
 use Rattle.records.proofs.put_record.Statement.{statement}
 use Rattle.records.proofs.put_record.Tie as tie
 
@@ -23,18 +25,16 @@ add-bytes : tie.Need-add-bytes
 add-bytes c = search needs
 
 slice-write-bytes-2 : tie.Need-slice-write-bytes-2
-slice-write-bytes-2 c = let a = c .before .before .before in room-mark (a .args .kind) (c .mark-of .ensures) (a .args .at) (now (a .args .bytes)) (a .pre)
+slice-write-bytes-2 c = simp length-set (omega arith)
 
 add-put-field : tie.Need-add-put-field
 add-put-field c = search needs
 
 put-field-requires : tie.Need-put-field-requires
-put-field-requires c κs = let a = c .before .before .before .before in room-first (a .args .kind) (c .before .mark-of .ensures) (a .args .at) (now (a .args .bytes)) (a .pre)
+put-field-requires c κs = simp length-set (omega (arith, fields-low (c .before .before .before .before .args .kind)))
 
 same-length : tie.Need-same-length
-same-length c =
-    let a = c .before .before .before .before .before .before .before .before .before in
-    kept-first (a .args .kind) (c .before .before .before .before .before .before .mark-of .ensures) (a .args .at) (now (a .args .bytes)) (a .pre) (c .before .before .before .before .put-field .kept .0)
+same-length c = c .before .before .before .before .put-field .kept .0 ∙ simp length-set
 
 returns : tie.Need-returns
 returns c =
@@ -58,13 +58,12 @@ add-put-field-2 c = search needs
 put-field-requires-2 : tie.Need-put-field-requires-2
 put-field-requires-2 c κs =
     let a = c .before .before .before .before .before .before .before .before .before .before in
-    room-second (a .args .kind) (c .before .before .before .before .before .before .before .mark-of .ensures) (a .args .at) (now (a .args .bytes)) (a .pre) (c .before .before .before .before .before .put-field .kept .0) (c .before .if1 .left)
+    let m = c .before .before .before .before .before .before .before in
+    omega (arith, simp length-set at (c .before .before .before .before .before .put-field .kept .0), a .pre, size-two (a .args .kind) (m .mark-of .ensures) (c .before .if1 .left))
 
 same-length-2 : tie.Need-same-length-2
 same-length-2 c =
-    let a = c .before .before .before .before .before .before .before .before .before .before .before .before .before in
-    c .before .before .put-field2 .kept .0
-    ∙ kept-first (a .args .kind) (c .before .before .before .before .before .before .before .before .before .before .mark-of .ensures) (a .args .at) (now (a .args .bytes)) (a .pre) (c .before .before .before .before .before .before .before .before .put-field .kept .0)
+    c .before .before .put-field2 .kept .0 ∙ c .before .before .before .before .before .before .before .before .put-field .kept .0 ∙ simp length-set
 
 returns-2 : tie.Need-returns-2
 returns-2 c =

@@ -70,7 +70,8 @@ module _ {M : Type 1} (𝓤 : URA M) (H : Heap 𝓤) (A : Atoms 𝓤) (mem : Mem
   abbrev NextEntries : Contract 𝓤
   NextEntries = tripleOf 𝓤 H A next-entries.signature (next-entries.spec 𝓤 H A mem run)
 
-module _ {M : Type 1} (𝓤 : URA M) (H : Heap 𝓤) (A : Atoms 𝓤) (W : Given 𝓤 H A) (mem : Memory → SProp 𝓤) (run : Routine → Fun 𝓤) (κ κ′ : Lft) (q q′ : Share) (k : Kind) (is-kind : Is K.the-row k (EL.vals K.the-type K′.the-laws k)) (p : RefT (List ℕ)) (n : ℕ) (ok : n < 2 ^ 64) (b o : ℕ) (γ : GName) (ys : List ℕ) where
+module _ {M : Type 1} (𝓤 : URA M) (H : Heap 𝓤) (A : Atoms 𝓤) (W : Given 𝓤 H A) (mem : Memory → SProp 𝓤) (run : Routine → Fun 𝓤) (κ κ′ : Lft) (q q′ : Share) (k : Kind)
+    (is-kind : Is K.the-row k (EL.vals K.the-type K′.the-laws k)) (p : RefT (List ℕ)) (n : ℕ) (ok : n < 2 ^ 64) (b o : ℕ) (γ : GName) (ys : List ℕ) where
   abbrev κs : Lfts 2
   κs = (κ, (κ′, tt))
 
@@ -165,7 +166,8 @@ module _ {M : Type 1} (𝓤 : URA M) (H : Heap 𝓤) (A : Atoms 𝓤) (W : Given
     walk is-slice room =
         qed W (raw (onEntry 𝓤 H A read-entries.signature κs (q, (q′, tt)) a at) ∷ []) ∵ enter ! C Λ code.function (mk ∷ v ∷ vint w64 n ∷ s ∷ []) _ $
         alloc1 ! (λ l₀. alloc1 ! (λ l₁. alloc1 ! (λ l₂. alloc1 ! (λ l₃. alloc1 ! (λ l₄. alloc1 ! (λ l₅. alloc1 ! (λ l₆. alloc1 ! (λ l₇. alloc0 ! $ params1 ! $
-        pass1 ! (init ! 12 refl (EL.lawful K.the-type K′.the-laws 𝓤 H A W tt .typed k _ is-kind .0)) $ pass1 ! (init ! 10 refl (shr-slice-lawful 𝓤 H A W (named 0) κ u8 .typed p (v ∷ []) is-slice .0)) $ pass1 ! (init ! 8 refl (tt, record { fits = ok })) $ pass1 ! (init ! 6 refl (tt, (tt, (record { fits = room .0 }, tt)))) $ pass0 ! $
+        pass1 ! (init ! 12 refl (EL.lawful K.the-type K′.the-laws 𝓤 H A W tt .typed k _ is-kind .0)) $ pass1 ! (init ! 10 refl (shr-slice-lawful 𝓤 H A W (named 0) κ u8 .typed p (v ∷ []) is-slice .0)) $
+        pass1 ! (init ! 8 refl (tt, record { fits = ok })) $ pass1 ! (init ! 6 refl (tt, (tt, (record { fits = room .0 }, tt)))) $ pass0 ! $
         -- [_7; …; _6; …; _5; …; _4; …; _3; …; _2; …; _1; …; room for _0; …; what the function has at entry]
         move ! (16 ∷ []) $ use1 W (raw (ReaderAt 𝓤 H A mem run .pre to-reader) ⊛ (‵ Lent ⊛ ‵ Own ⊛ ‵ (flft κ′ q′))) goes-reader $ split ! $
         calls-at ! fm (ReaderAt 𝓤 H A mem run) known-reader to-reader (and-then ! (load ! (from ! (stop !)) (look ! 12 refl)) (and-then ! (load ! (from ! (stop !)) (look ! 10 refl)) (no-more !))) (λ u.
@@ -186,7 +188,8 @@ module _ {M : Type 1} (𝓤 : URA M) (H : Heap 𝓤) (A : Atoms 𝓤) (W : Given
         move ! (2 ∷ []) $ split ! $ move ! (1 ∷ []) $ peeks ! usize (Is usize) (shows 𝓤 H A usize) c (w ∷ []) (λ is′.
         land ! (from ! (stop !)) (init ! 19 refl (uint-lawful 𝓤 H A W w64 .typed c _ is′ .0)) $
         returns ! (look ! 19 refl) $ forget ! 5 refl $ forget ! 7 refl $ forget ! 9 refl $ forget ! 11 refl $ forget ! 13 refl $ forget ! 15 refl $ forget ! 17 refl $ forget ! 19 refl $
-        move ! (19 ∷ 20 ∷ []) $ free1 ! $ move ! (17 ∷ 18 ∷ []) $ free1 ! $ move ! (15 ∷ 16 ∷ []) $ free1 ! $ move ! (13 ∷ 14 ∷ []) $ free1 ! $ move ! (11 ∷ 12 ∷ []) $ free1 ! $ move ! (9 ∷ 10 ∷ []) $ free1 ! $ move ! (7 ∷ 8 ∷ []) $ free1 ! $ move ! (5 ∷ 6 ∷ []) $ free1 ! $ free0 ! $
+        move ! (19 ∷ 20 ∷ []) $ free1 ! $ move ! (17 ∷ 18 ∷ []) $ free1 ! $ move ! (15 ∷ 16 ∷ []) $ free1 ! $ move ! (13 ∷ 14 ∷ []) $ free1 ! $ move ! (11 ∷ 12 ∷ []) $ free1 ! $ move ! (9 ∷ 10 ∷ []) $ free1 ! $ move ! (7 ∷ 8 ∷ []) $
+        free1 ! $ move ! (5 ∷ 6 ∷ []) $ free1 ! $ free0 ! $
         keep ! (1 ∷ 2 ∷ 0 ∷ 4 ∷ []) $ by ! (exits c w (zs .1 .1 .0) (carried r c (zs .1 .1 .0) e e′) l)))))))))))))))))))
 
 module _ {M : Type 1} (𝓤 : URA M) (H : Heap 𝓤) (A : Atoms 𝓤) (W : Given 𝓤 H A) (mem : Memory → SProp 𝓤) (run : Routine → Fun 𝓤) where
@@ -201,7 +204,8 @@ read-entries-meets : {M : Type 1} (𝓤 : URA M) (H : Heap 𝓤) (A : Atoms 𝓤
     → Triple 𝓤 (𝓣 .C #records·reader-at) (ReaderAt 𝓤 H A mem run) → Triple 𝓤 (𝓣 .C #records·next-entries) (NextEntries 𝓤 H A mem run)
     → Meets 𝓤 H A read-entries.signature (WpFn 𝓤 H (𝓣 .C) (𝓣 .Λ) code.function) (read-entries.spec 𝓤 H A mem run)
 read-entries-meets 𝓤 H A W mem run 𝓣 known-reader known-next =
-    walk-meets 𝓤 H A read-entries.ended stayed W (goes-none 𝓤 H A W 2 (λ _. K.the-row) yes (λ κs x f. refl), (goes-none-slice 𝓤 H A W 2 (0 ∷ []) tt (plain (λ _. u8)) yes, (goes-none 𝓤 H A W 2 (λ _. usize) yes (λ κs x f. refl), (goes-gave-slice 𝓤 H A W 2 1 tt (plain (λ _. u16)), tt))))
+    walk-meets 𝓤 H A read-entries.ended stayed W
+    (goes-none 𝓤 H A W 2 (λ _. K.the-row) yes (λ κs x f. refl), (goes-none-slice 𝓤 H A W 2 (0 ∷ []) tt (plain (λ _. u8)) yes, (goes-none 𝓤 H A W 2 (λ _. usize) yes (λ κs x f. refl), (goes-gave-slice 𝓤 H A W 2 1 tt (plain (λ _. u16)), tt))))
     (read-entries.clauses 𝓤 H A mem run) (WpFn 𝓤 H (𝓣 .C) (𝓣 .Λ) code.function) (WpFn-mono 𝓤 H (W .laws) 𝓣 code.function) (read-entries-walks 𝓤 H A W mem run (𝓣 .C) (𝓣 .Λ) (fmOf 𝓤 H (W .laws) 𝓣) known-reader known-next)
 
 pub read-entries-spec : {M : Type 1} → stated.statement M

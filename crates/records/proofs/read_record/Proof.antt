@@ -108,7 +108,8 @@ module _ {M : Type 1} (𝓤 : URA M) (H : Heap 𝓤) (A : Atoms 𝓤) (W : Given
   goes-reader =
       qed W ((‵ (flft κ q) ⊛ ‵ ftrue) ∷ ‵ (owns (K.the-row ∷ ShrSlice (named 0) κ u8 ∷ usize ∷ []) (k, (s, (n, tt))) at) ∷ []) ∵
       move ! (1 ∷ []) $ fsplit ! $ drop ! $ fsplit ! $ use1 W (‵ Own ⊛ ‵ Own) (shr-slice-copy 𝓤 H A W (named 0) κ u8 .twice s (v ∷ [])) $ split ! $
-      move ! (0 ∷ 2 ∷ []) $ fjoin ! $ move ! (2 ∷ 0 ∷ []) $ use2 W (raw (ReaderAt 𝓤 H A mem run .pre to-reader)) (qed W ((‵ (flft κ q) ⊛ ‵ ftrue) ∷ ‵ (owns (ShrSlice (named 0) κ u8 ∷ usize ∷ []) (s, (n, tt)) (v ∷ [], (vint w64 n ∷ [], tt))) ∷ []) ∵ join ! $ frame ! $ done !) $ frame ! $ done !
+      move ! (0 ∷ 2 ∷ []) $ fjoin ! $ move ! (2 ∷ 0 ∷ []) $
+      use2 W (raw (ReaderAt 𝓤 H A mem run .pre to-reader)) (qed W ((‵ (flft κ q) ⊛ ‵ ftrue) ∷ ‵ (owns (ShrSlice (named 0) κ u8 ∷ usize ∷ []) (s, (n, tt)) (v ∷ [], (vint w64 n ∷ [], tt))) ∷ []) ∵ join ! $ frame ! $ done !) $ frame ! $ done !
 
   reader-said : (r : Reader) → ent 𝓤 (ensured 𝓤 H A reader-at.ended (reader-at.clauses 𝓤 H A mem run) (κ, tt) (s, (n, tt)) tt r) (fact 𝓤 ((r .bytes ≡ s) × (r .at ≡ n)))
   reader-said r = exE 𝓤 _ (λ ws. snd∗ 𝓤 (sem 𝓤 H A (lasts reader-at.ended (κ, tt) (s, (n, tt)) ws)) (fact 𝓤 ((r .bytes ≡ s) × (r .at ≡ n))))
@@ -159,13 +160,17 @@ module _ {M : Type 1} (𝓤 : URA M) (H : Heap 𝓤) (A : Atoms 𝓤) (W : Given
 module _ {M : Type 1} (𝓤 : URA M) (H : Heap 𝓤) (A : Atoms 𝓤) (W : Given 𝓤 H A) (mem : Memory → SProp 𝓤) (run : Routine → Fun 𝓤) where
   read-record-walks : (C : Calls 𝓤 H) (Λ : Loops 𝓤 H) → FmC 𝓤 H (W .laws) C → Triple 𝓤 (C #records·reader-at) (ReaderAt 𝓤 H A mem run) → Triple 𝓤 (C #records·next-record) (NextRecord 𝓤 H A mem run)
       → Walks 𝓤 H A read-record.ended stayed (WpFn 𝓤 H C Λ code.function) (read-record.clauses 𝓤 H A mem run)
-  read-record-walks C Λ fm known-reader known-next = walked 𝓤 H A read-record.ended stayed (read-record.clauses 𝓤 H A mem run) (WpFn 𝓤 H C Λ code.function) (λ κs. (EL.vals K.the-type K′.the-laws, (slice-vals, (uint-vals w64, tt)))) (λ κs. (EL.tells K.the-type K′.the-laws, (shr-slice-tells (named 0) (κs .0) u8, (uint-tells w64, tt))))
+  read-record-walks C Λ fm known-reader known-next =
+      walked 𝓤 H A read-record.ended stayed (read-record.clauses 𝓤 H A mem run) (WpFn 𝓤 H C Λ code.function) (λ κs. (EL.vals K.the-type K′.the-laws, (slice-vals, (uint-vals w64, tt))))
+      (λ κs. (EL.tells K.the-type K′.the-laws, (shr-slice-tells (named 0) (κs .0) u8, (uint-tells w64, tt))))
       (λ κs qs bounds a g are. via 𝓤 _ (fst∗ 𝓤 _ (emp 𝓤)) (walk 𝓤 H A W mem run (κs .0) (qs .0) (a .0) (are .0) (a .1 .0) (a .1 .1 .0) (are .1 .1 .0 .1) C Λ fm known-reader known-next (are .1 .0)))
 
 read-record-meets : {M : Type 1} (𝓤 : URA M) (H : Heap 𝓤) (A : Atoms 𝓤) (W : Given 𝓤 H A) (mem : Memory → SProp 𝓤) (run : Routine → Fun 𝓤) (𝓣 : Tables 𝓤 H)
     → Triple 𝓤 (𝓣 .C #records·reader-at) (ReaderAt 𝓤 H A mem run) → Triple 𝓤 (𝓣 .C #records·next-record) (NextRecord 𝓤 H A mem run)
     → Meets 𝓤 H A read-record.signature (WpFn 𝓤 H (𝓣 .C) (𝓣 .Λ) code.function) (read-record.spec 𝓤 H A mem run)
-read-record-meets 𝓤 H A W mem run 𝓣 known-reader known-next = walk-meets 𝓤 H A read-record.ended stayed W (goes-none 𝓤 H A W 1 (λ _. K.the-row) yes (λ κs x f. refl), (goes-none-slice 𝓤 H A W 1 (0 ∷ []) tt (plain (λ _. u8)) yes, (goes-none 𝓤 H A W 1 (λ _. usize) yes (λ κs x f. refl), tt))) (read-record.clauses 𝓤 H A mem run) (WpFn 𝓤 H (𝓣 .C) (𝓣 .Λ) code.function) (WpFn-mono 𝓤 H (W .laws) 𝓣 code.function)
+read-record-meets 𝓤 H A W mem run 𝓣 known-reader known-next =
+    walk-meets 𝓤 H A read-record.ended stayed W (goes-none 𝓤 H A W 1 (λ _. K.the-row) yes (λ κs x f. refl), (goes-none-slice 𝓤 H A W 1 (0 ∷ []) tt (plain (λ _. u8)) yes, (goes-none 𝓤 H A W 1 (λ _. usize) yes (λ κs x f. refl), tt)))
+    (read-record.clauses 𝓤 H A mem run) (WpFn 𝓤 H (𝓣 .C) (𝓣 .Λ) code.function) (WpFn-mono 𝓤 H (W .laws) 𝓣 code.function)
     (read-record-walks 𝓤 H A W mem run (𝓣 .C) (𝓣 .Λ) (fmOf 𝓤 H (W .laws) 𝓣) known-reader known-next)
 
 pub read-record-spec : {M : Type 1} → stated.statement M

@@ -1,58 +1,86 @@
 -- `ask` meets its contract: one law for each way out. Assumes nothing.
 use borrow.Author.Needs.{needs}
-use Rattle.responder.proofs.AskLaws.{low-way, high-way, long-way, initial-part, goal-part, reading, ask-way}
+use Rattle.responder.proofs.AskLaws.{headless-way, long-way, broken-way, tail-way, plan-way, twice-fits, sum-fits, place-fits, part}
 use Rattle.responder.proofs.ask.Statement.{statement}
 use Rattle.responder.proofs.ask.Tie as tie
 
+enum-told : tie.Need-enum-told
+enum-told c = search needs
+
+enum-known-sheet : tie.Need-enum-known-sheet
+enum-known-sheet c = search needs
+
+refused-requires : tie.Need-refused-requires
+refused-requires c κs = search needs
+
+enum-known-sheet-2 : tie.Need-enum-known-sheet-2
+enum-known-sheet-2 c = search needs
+
+refused-requires-2 : tie.Need-refused-requires-2
+refused-requires-2 c κs = search needs
+
+enum-known-sheet-3 : tie.Need-enum-known-sheet-3
+enum-known-sheet-3 c = search needs
+
+mul-refused : tie.Need-mul-refused
+mul-refused c = search (needs, twice-fits)
+
+add-refused : tie.Need-add-refused
+add-refused c = search (needs, sum-fits)
+
+cast-refused : tie.Need-cast-refused
+cast-refused c = search (needs, place-fits)
+
+refused-requires-3 : tie.Need-refused-requires-3
+refused-requires-3 c κs = search needs
+
+slice-aggregate-plan : tie.Need-slice-aggregate-plan
+slice-aggregate-plan c = search (needs, part)
+
+slice-aggregate-plan-2 : tie.Need-slice-aggregate-plan-2
+slice-aggregate-plan-2 c = search (needs, part)
+
+plan-requires : tie.Need-plan-requires
+plan-requires c κs = search needs
+
 returns : tie.Need-returns
-returns c = search (needs, low-way)
+returns c = search (needs, headless-way)
 
 returns-2 : tie.Need-returns-2
-returns-2 c = search (needs, high-way)
+returns-2 c = search (needs, long-way)
 
 returns-3 : tie.Need-returns-3
-returns-3 c = search (needs, long-way)
+returns-3 c = search (needs, broken-way)
 
-slice-relend-prefix-ask-records : tie.Need-slice-relend-prefix-ask-records
-slice-relend-prefix-ask-records c = search needs
-
-slice-aggregate-ask-records : tie.Need-slice-aggregate-ask-records
-slice-aggregate-ask-records c = search (needs, initial-part)
-
-slice-relend-prefix-ask-records-2 : tie.Need-slice-relend-prefix-ask-records-2
-slice-relend-prefix-ask-records-2 c = search needs
-
-slice-aggregate-ask-records-2 : tie.Need-slice-aggregate-ask-records-2
-slice-aggregate-ask-records-2 c = search (needs, goal-part)
-
-ask-records-requires : tie.Need-ask-records-requires
-ask-records-requires c κs = search (needs, reading)
+returns-4 : tie.Need-returns-4
+returns-4 c = search (needs, tail-way)
 
 same-length : tie.Need-same-length
 same-length c = search needs
 
-same-length-2 : tie.Need-same-length-2
-same-length-2 c = search needs
-
-same-length-3 : tie.Need-same-length-3
-same-length-3 c = search needs
-
-returns-4 : tie.Need-returns-4
-returns-4 c = search (needs, ask-way)
+returns-5 : tie.Need-returns-5
+returns-5 c = search (needs, plan-way)
 
 pub ask-spec : {M : Type 1} → statement M
 ask-spec =
     tie.close
     (tie.spec
+    enum-told
+    enum-known-sheet
+    refused-requires
+    enum-known-sheet-2
+    refused-requires-2
+    enum-known-sheet-3
+    mul-refused
+    add-refused
+    cast-refused
+    refused-requires-3
+    slice-aggregate-plan
+    slice-aggregate-plan-2
+    plan-requires
     returns
     returns-2
     returns-3
-    slice-relend-prefix-ask-records
-    slice-aggregate-ask-records
-    slice-relend-prefix-ask-records-2
-    slice-aggregate-ask-records-2
-    ask-records-requires
+    returns-4
     same-length
-    same-length-2
-    same-length-3
-    returns-4)
+    returns-5)

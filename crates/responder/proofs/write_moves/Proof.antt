@@ -14,26 +14,26 @@ abbrev μ-loop : tie.MeasureT-loop
 loop-holds : tie.Need-loop-holds Inv-loop μ-loop
 loop-holds c = search (needs, writing-begin)
 
-mul-put-record : tie.Need-mul-put-record Inv-loop μ-loop
-mul-put-record c = search needs
+mul-block : tie.Need-mul-block Inv-loop μ-loop
+mul-block c = search needs
 
-mul-put-record-2 : tie.Need-mul-put-record-2 Inv-loop μ-loop
-mul-put-record-2 c = search needs
+mul-block-2 : tie.Need-mul-block-2 Inv-loop μ-loop
+mul-block-2 c = search needs
 
-shared-slice-read-put-record : tie.Need-shared-slice-read-put-record Inv-loop μ-loop
-shared-slice-read-put-record c = search (needs, pair-first)
+shared-slice-read-block : tie.Need-shared-slice-read-block Inv-loop μ-loop
+shared-slice-read-block c = search (needs, pair-first)
 
-mul-put-record-3 : tie.Need-mul-put-record-3 Inv-loop μ-loop
-mul-put-record-3 c = search needs
+mul-support : tie.Need-mul-support Inv-loop μ-loop
+mul-support c = search needs
 
-add-put-record : tie.Need-add-put-record Inv-loop μ-loop
-add-put-record c = search needs
+add-support : tie.Need-add-support Inv-loop μ-loop
+add-support c = search needs
 
-mul-put-record-4 : tie.Need-mul-put-record-4 Inv-loop μ-loop
-mul-put-record-4 c = search needs
+mul-support-2 : tie.Need-mul-support-2 Inv-loop μ-loop
+mul-support-2 c = search needs
 
-shared-slice-read-put-record-2 : tie.Need-shared-slice-read-put-record-2 Inv-loop μ-loop
-shared-slice-read-put-record-2 c = search (needs, pair-second)
+shared-slice-read-support : tie.Need-shared-slice-read-support Inv-loop μ-loop
+shared-slice-read-support c = search (needs, pair-second)
 
 put-record-requires : tie.Need-put-record-requires Inv-loop μ-loop
 put-record-requires c κs = search (needs, record-room)
@@ -60,13 +60,13 @@ write-moves-spec =
     Inv-loop
     μ-loop
     loop-holds
-    mul-put-record
-    mul-put-record-2
-    shared-slice-read-put-record
-    mul-put-record-3
-    add-put-record
-    mul-put-record-4
-    shared-slice-read-put-record-2
+    mul-block
+    mul-block-2
+    shared-slice-read-block
+    mul-support
+    add-support
+    mul-support-2
+    shared-slice-read-support
     put-record-requires
     add-i
     loop-less

@@ -1,14 +1,14 @@
--- A number that waits is a block, so its entry can be read, and decides. Assumes nothing.
+-- `is_perched` meets its contract. Assumes nothing.
 use borrow.Author.Needs.{needs}
-use Rattle.statuses.proofs.TestLaws.{block-low, entry-within, not-perched, perched-at}
+use Rattle.statuses.proofs.TestLaws.{read-in, perched-not, block-low, entry-within, perched-at}
 use Rattle.statuses.proofs.is_perched.Statement.{statement}
 use Rattle.statuses.proofs.is_perched.Tie as tie
 
 is-waiting-requires : tie.Need-is-waiting-requires
-is-waiting-requires c κs = search needs
+is-waiting-requires c κs = search (needs, read-in)
 
 returns : tie.Need-returns
-returns c = search (needs, not-perched)
+returns c = search (needs, perched-not)
 
 sub-result : tie.Need-sub-result
 sub-result c = search (needs, block-low)

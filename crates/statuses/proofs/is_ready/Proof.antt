@@ -1,14 +1,15 @@
 -- A number that waits is a block, so its goal support can be read, and how that stands and what rests on it decide. Assumes nothing.
 use borrow.Author.Needs.{needs}
-use Rattle.statuses.proofs.TestLaws.{block-low, goal-within, stands-scaled, stands-within, load-within, not-ready, goal-misplaced, ready-at}
+use Rattle.rows.proofs.RowLaws.{scaled}
+use Rattle.statuses.proofs.TestLaws.{read-in, ready-not, block-low, entry-within, target-in, target-load, target-off, target-at}
 use Rattle.statuses.proofs.is_ready.Statement.{statement}
 use Rattle.statuses.proofs.is_ready.Tie as tie
 
 is-waiting-requires : tie.Need-is-waiting-requires
-is-waiting-requires c κs = search needs
+is-waiting-requires c κs = search (needs, read-in)
 
 returns : tie.Need-returns
-returns c = search (needs, not-ready)
+returns c = search (needs, ready-not)
 
 sub-wide : tie.Need-sub-wide
 sub-wide c = search (needs, block-low)
@@ -17,28 +18,34 @@ mul-wide : tie.Need-mul-wide
 mul-wide c = search needs
 
 shared-slice-read-wide : tie.Need-shared-slice-read-wide
-shared-slice-read-wide c = search (needs, goal-within)
+shared-slice-read-wide c = search (needs, entry-within)
 
 wide-requires : tie.Need-wide-requires
 wide-requires c κs = search needs
 
 mul-if2 : tie.Need-mul-if2
-mul-if2 c = search (needs, stands-scaled)
+mul-if2 c = search (needs, scaled, target-in)
 
-shared-slice-read-if2 : tie.Need-shared-slice-read-if2
-shared-slice-read-if2 c = search (needs, stands-within)
+index-1-if2 : tie.Need-index-1-if2
+index-1-if2 c = search needs
+
+index-2-if2 : tie.Need-index-2-if2
+index-2-if2 c = search (needs, target-in)
 
 returns-2 : tie.Need-returns-2
-returns-2 c = search (needs, goal-misplaced)
+returns-2 c = search (needs, target-off)
+
+index-1-taken : tie.Need-index-1-taken
+index-1-taken c = search needs
 
 taken-requires : tie.Need-taken-requires
 taken-requires c κs =
-    let at-wide = c .before .before in
-    let at-if = at-wide .before .before in
-    load-within (at-if .before .before .before .before .before .before .pre) (at-if .before .is-waiting .ensures) (at-if .if1 .left) (at-wide .wide .ensures)
+    let d = c .before .before .before .before in
+    let e = d .before .before in
+    target-load (e .before .before .before .pre) (e .before .is-waiting .ensures) (e .if1 .left) (d .wide .ensures)
 
 returns-3 : tie.Need-returns-3
-returns-3 c = search (needs, ready-at)
+returns-3 c = search (needs, target-at)
 
 pub is-ready-spec : {M : Type 1} → statement M
 is-ready-spec =
@@ -51,7 +58,9 @@ is-ready-spec =
     shared-slice-read-wide
     wide-requires
     mul-if2
-    shared-slice-read-if2
+    index-1-if2
+    index-2-if2
     returns-2
+    index-1-taken
     taken-requires
     returns-3)

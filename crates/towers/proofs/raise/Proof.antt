@@ -1,47 +1,51 @@
 -- `raise` meets its contract: a law for each way out. Assumes nothing.
 use borrow.Author.Needs.{needs}
-use Rattle.towers.proofs.SettleLaws.{raised-low, raised-within, root-within, raised-fits, high-within, high-scaled, flat-way, raised-way}
+use Rattle.rows.proofs.RowLaws.{scaled}
+use Rattle.towers.proofs.RestandLaws.{kept-row, raised-row}
 use Rattle.towers.proofs.raise.Statement.{statement}
 use Rattle.towers.proofs.raise.Tie as tie
 
 sub-wide : tie.Need-sub-wide
-sub-wide c = search (needs, raised-low)
+sub-wide c = search needs
 
 mul-wide : tie.Need-mul-wide
-mul-wide c = search (needs, raised-within)
+mul-wide c = search needs
 
 shared-slice-read-wide : tie.Need-shared-slice-read-wide
-shared-slice-read-wide c = search (needs, raised-within)
+shared-slice-read-wide c = search needs
 
 wide-requires : tie.Need-wide-requires
 wide-requires c κs = search needs
 
 returns : tie.Need-returns
-returns c = search (needs, flat-way)
+returns c = search (needs, kept-row)
 
 mul-wide-2 : tie.Need-mul-wide-2
-mul-wide-2 c = search (needs, root-within)
+mul-wide-2 c = search needs
 
-shared-slice-read-wide-2 : tie.Need-shared-slice-read-wide-2
-shared-slice-read-wide-2 c = search (needs, root-within)
+index-1-wide : tie.Need-index-1-wide
+index-1-wide c = search needs
+
+index-2-wide : tie.Need-index-2-wide
+index-2-wide c = search needs
 
 wide-requires-2 : tie.Need-wide-requires-2
 wide-requires-2 c κs = search needs
 
-cast-highs : tie.Need-cast-highs
-cast-highs c = search (needs, raised-fits)
+cast-yard : tie.Need-cast-yard
+cast-yard c = search needs
 
-mul-highs : tie.Need-mul-highs
-mul-highs c = search (needs, high-scaled)
+mul-yard : tie.Need-mul-yard
+mul-yard c = search needs
 
-slice-write-highs : tie.Need-slice-write-highs
-slice-write-highs c = high-within (c .before .before .before .before .before .before .before .before .before .pre) (c .wide2 .ensures)
+index-1-yard : tie.Need-index-1-yard
+index-1-yard c = search needs
 
-same-length : tie.Need-same-length
-same-length c = search needs
+index-2-yard : tie.Need-index-2-yard
+index-2-yard c = search needs
 
 returns-2 : tie.Need-returns-2
-returns-2 c = search (needs, raised-way)
+returns-2 c = search (needs, raised-row)
 
 pub raise-spec : {M : Type 1} → statement M
 raise-spec =
@@ -53,10 +57,11 @@ raise-spec =
     wide-requires
     returns
     mul-wide-2
-    shared-slice-read-wide-2
+    index-1-wide
+    index-2-wide
     wide-requires-2
-    cast-highs
-    mul-highs
-    slice-write-highs
-    same-length
+    cast-yard
+    mul-yard
+    index-1-yard
+    index-2-yard
     returns-2)

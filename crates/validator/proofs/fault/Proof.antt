@@ -1,4 +1,4 @@
--- `fault` meets its contract: one law for each way out. Assumes nothing.
+-- One law for each way out. Assumes nothing.
 use borrow.Author.Needs.{needs}
 use Rattle.validator.proofs.FaultLaws.{no-block, above-blocks, outside, covered, already, itself, occupied, legal}
 use Rattle.validator.proofs.fault.Statement.{statement}

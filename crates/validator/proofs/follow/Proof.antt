@@ -1,4 +1,4 @@
--- `follow` meets its contract. The invariant: what is left to follow gives what the whole gives, and the current state and its loads are known. Assumes nothing.
+-- The invariant: what is left to follow gives what the whole gives, and the current state and its loads are known. Assumes nothing.
 use borrow.Author.Needs.{needs}
 use Prim.Native.Nat.{_-_}
 use mathlib.Core.Path.{_≡_}
@@ -8,11 +8,11 @@ use Rattle.validator.proofs.follow.Statement.{statement}
 use Rattle.validator.proofs.follow.Tie as tie
 
 abbrev Inv-loop : tie.InvT-loop
-Inv-loop cur₀ goal load₀ lifts count k₀ cur load k =
-    Following cur₀ goal lifts count k cur load × (length cur ≡ length cur₀) × (length load ≡ length load₀)
+Inv-loop cur₀ goal moves loads₀ count k₀ cur loads k =
+    Following cur₀ goal moves count k cur loads × (length cur ≡ length cur₀) × (length loads ≡ length loads₀)
 
 abbrev μ-loop : tie.MeasureT-loop
-μ-loop cur₀ goal load₀ lifts count k₀ cur load k = count - k
+μ-loop cur₀ goal moves loads₀ count k₀ cur loads k = count - k
 
 loop-holds : tie.Need-loop-holds Inv-loop μ-loop
 loop-holds c = search (needs, begin)
@@ -58,11 +58,13 @@ same-length-2 c = search needs
 
 returns : tie.Need-returns Inv-loop μ-loop
 returns c =
-    bad-way (c .before .before .before .before .before .before .before .before .before .loop .inv .0) (search needs) (search needs) (search needs) (c .before .fault .ensures) (search needs)
+    let d = c .before .before .before .before .before .before .before .before .before in
+    search (needs, bad-way (d .loop .inv .0))
 
 make-move-requires : tie.Need-make-move-requires Inv-loop μ-loop
 make-move-requires c κs =
-    movable (c .before .before .before .before .before .before .before .before .before .before .before .loop .inv .0) (search needs) (search needs) (search needs) {v = c .before .before .before .fault .result} (c .before .before .before .fault .ensures) (search needs)
+    let d = c .before .before .before .before .before .before .before .before .before .before .before in
+    search (needs, movable (d .loop .inv .0))
 
 add-k : tie.Need-add-k Inv-loop μ-loop
 add-k c = search needs
@@ -71,11 +73,17 @@ loop-less : tie.Need-loop-less Inv-loop μ-loop
 loop-less c = search needs
 
 loop-again : tie.Need-loop-again Inv-loop μ-loop
-loop-again c = (
-  next (c .before .before .before .before .before .before .before .before .before .before .before .before .before .before .before .before .loop .inv .0) (search needs) (search needs) (search needs) {v = c .before .before .before .before .before .before .before .before .fault .result} (c .before .before .before .before .before .before .before .before .fault .ensures) (search needs) (c .before .before .before .before .make-move .ensures),
-  search needs,
-  search needs,
-)
+loop-again c =
+    let m = c .before .before .before .before in
+    let e = m .before .before .before in
+    let f = e .before in
+    let y = f .before .before .before in
+    let x = y .before .before in
+    let i = x .before .before in (
+      next (i .before .loop .inv .0) (i .loop-test .taken) (x .wide .ensures) (y .wide2 .ensures) (f .fault .ensures) (e .if1 .left) (m .make-move .ensures),
+      search needs,
+      search needs,
+    )
 
 first-difference-requires : tie.Need-first-difference-requires Inv-loop μ-loop
 first-difference-requires c κs = search needs

@@ -1,34 +1,35 @@
--- `judge` meets its contract: it lends the front of the list for the state. Assumes nothing.
+-- The initial state is copied, and the list is followed from there. Assumes nothing.
 use borrow.Author.Needs.{needs}
-use Rattle.validator.proofs.ValidateLaws.{state-within, part-length, judgeable-in, whole-length}
+use lib.Seq.{length-take-le}
+use Rattle.validator.proofs.ValidateLaws.{followable, followed}
 use Rattle.validator.proofs.judge.Statement.{statement}
 use Rattle.validator.proofs.judge.Tie as tie
 
-slice-relend-prefix-judge-in : tie.Need-slice-relend-prefix-judge-in
-slice-relend-prefix-judge-in c = search (needs, state-within)
+array-borrow-prefix-room : tie.Need-array-borrow-prefix-room
+array-borrow-prefix-room c = search needs
 
-slice-aggregate-judge-in : tie.Need-slice-aggregate-judge-in
-slice-aggregate-judge-in c = search (needs, part-length)
+slice-aggregate-cur : tie.Need-slice-aggregate-cur
+slice-aggregate-cur c = search (needs, length-take-le)
 
-judge-in-requires : tie.Need-judge-in-requires
-judge-in-requires c κs = search (needs, judgeable-in)
+copy-requires : tie.Need-copy-requires
+copy-requires c κs = search (needs, length-take-le)
+
+follow-requires : tie.Need-follow-requires
+follow-requires c κs = search (needs, followable)
 
 same-length : tie.Need-same-length
-same-length c = search (needs, whole-length)
-
-same-length-2 : tie.Need-same-length-2
-same-length-2 c = search needs
+same-length c = search needs
 
 returns : tie.Need-returns
-returns c = search needs
+returns c = search (needs, followed)
 
 pub judge-spec : {M : Type 1} → statement M
 judge-spec =
     tie.close
     (tie.spec
-    slice-relend-prefix-judge-in
-    slice-aggregate-judge-in
-    judge-in-requires
+    array-borrow-prefix-room
+    slice-aggregate-cur
+    copy-requires
+    follow-requires
     same-length
-    same-length-2
     returns)

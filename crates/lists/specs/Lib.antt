@@ -1,0 +1,3 @@
+pub mod Reflect
+pub mod Search
+pub mod Lists

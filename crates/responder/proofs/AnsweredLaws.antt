@@ -1,0 +1,147 @@
+-- What is answered to a sheet that was read is the definition's answer to the input: a law for each case, and one for all. Assumes nothing.
+use Prim.Native.Nat.{ℕ, _+_, _*_, _≤_}
+use mathlib.Core.Path.{_≡_, refl, sym, _∙_, ap, subst}
+use mathlib.Core.Logic.{_⊎_, inl, inr, _≢_}
+use mathlib.Core.Bool.{Bool, cond}
+use mathlib.Core.List.{List, [], _∷_, _++_}
+use native.Mathlib.Omega.{arith}
+use lib.ListN.{length, length-replicate}
+use Rattle.blocks.specs.State.{State, most}
+use Rattle.blocks.specs.Question.{no′, firstNo, AllYes, FirstNo, IsMethod, asksMethod, asksSize, asksRoom, asksPlan, problemQuestions, planQuestions}
+use Rattle.blocks.specs.Method.{planOutcome}
+use Rattle.lists.proofs.ReflectLaws.{Reflects, holds, fails, same?}
+use Rattle.records.specs.Records.{recordAt}
+use Rattle.records.specs.declared.Kind.the-variants.{Hd}
+use Rattle.records.specs.declared.Found.the-variants.{Record, Missing}
+use Rattle.sheets.specs.declared.Sheet.{Sheet}
+use Rattle.sheets.specs.declared.Sheet.the-variants.{Headless, Long, Broken, Whole}
+use Rattle.sheets.specs.Sheets.{nows, goals}
+use Rattle.sheets.specs.Reads.{ReadsSheet}
+use Rattle.sheets.specs.Cases.{IsLong, NowMissing, GoalMissing, IsBroken, IsWhole}
+use Rattle.sheets.proofs.SheetLaws as read
+use Rattle.planner.specs.Answers.{Plans}
+use Rattle.planner.specs.declared.Planned.{Planned}
+use Rattle.planner.specs.declared.Planned.the-variants.{Refused, Made}
+use Rattle.responder.specs.Responses.{asksNows, asksGoals, asksTail, recordQuestions, lent, sheetQuestions}
+use Rattle.responder.specs.Responses.{refusalBytes, planRecords, reply, sheetResponse, responseBy, responseTo}
+use Rattle.responder.specs.Answers.{refusedAs, Askable, AsksBy, Asks, replyOf, Writable}
+use Rattle.responder.proofs.BehindLaws.{once, without-yes, without-room}
+use Rattle.responder.proofs.DecidedLaws.{method-reflects, middle, middle-decides, sheet-refuses}
+use Rattle.responder.proofs.PlannedLaws.{made-yes, made-records, made-writable}
+
+-- The records of an answer are the definition's, and they can be written.
+pub record Answered (bytes : List ℕ) (r : Planned) (space′ : List ℕ) : Type 0 where
+  pub same : replyOf r space′ ≡ responseTo bytes
+  pub writable : Writable r space′
+
+-- ---- a "no"
+
+refusal : {bytes : List ℕ} {k p : ℕ} (space : List ℕ) → refusalBytes k p ≡ responseTo bytes → Answered bytes (Refused k p) space
+refusal space e = record { same = e; writable = record { counts = λ c d f. let z : _≡_ {A = ℕ} 0 1 = cc in absurd (omega arith) } }
+
+headless-way : {bytes : List ℕ} (space : List ℕ) {r : Planned} → recordAt Hd bytes 0 ≡ Missing → r ≡ Refused 12 0 → Answered bytes r space
+unfolding responseTo
+headless-way {bytes} space {r} head e = subst (λ a. Answered bytes a space) (sym e) (refusal space (sym (ap (λ f. responseBy f bytes) head)))
+
+module _ (bytes : List ℕ) {n m : ℕ} (head : recordAt Hd bytes 0 ≡ Record n m) (space : List ℕ) where
+  responds : sheetResponse n m bytes ≡ responseTo bytes
+  unfolding responseTo
+  responds = sym (ap (λ f. responseBy f bytes) head)
+
+  asked-no : {k p : ℕ} → firstNo (sheetQuestions n m bytes) ≡ no′ k p → Answered bytes (Refused k p) space
+  unfolding sheetResponse
+  asked-no e = refusal space (sym (ap (λ a. reply a (planRecords m (nows bytes 0 n) (goals bytes 0 n) (lent n))) e) ∙ responds)
+
+  no-way : {k p : ℕ} → FirstNo (sheetQuestions n m bytes) k p → Answered bytes (Refused k p) space
+  no-way {k} {p} f = asked-no (sheet-refuses n m bytes k p .1 f)
+
+  -- question 1 before it
+  behind-way : (k p : ℕ) {r : Planned} → (IsMethod m → FirstNo (sheetQuestions n m bytes) k p) → r ≡ refusedAs m k p → Answered bytes r space
+  unfolding sheetQuestions asksMethod
+  behind-way k p f e = subst (λ a. Answered bytes a space) (sym e) (by (method-reflects m))
+    where
+      by : {t : Bool} → Reflects (IsMethod m) t → Answered bytes (cond t (Refused k p) (Refused 1 0)) space
+      by (holds i) = no-way (f i)
+      by (fails i) = no-way (inl (refl, (refl, i)))
+
+module _ {bytes : List ℕ} {m : ℕ} {r : Planned} (space : List ℕ) where
+  long-way : IsLong bytes 0 m → r ≡ refusedAs m 2 0 → Answered bytes r space
+  unfolding sheetQuestions asksMethod asksSize
+  long-way w = behind-way bytes (w .head) space 2 0 (λ i. inr (i, inl (refl, (refl, λ l. omega (arith, w .long)))))
+
+  broken-way : {p : ℕ} → IsBroken bytes 0 m p → r ≡ refusedAs m 12 p → Answered bytes r space
+  unfolding sheetQuestions asksMethod asksSize asksNows asksGoals
+  broken-way {p} w = behind-way bytes (w .head) space 12 p (λ i. inr (i, inr (w .small, by (w .missing))))
+    where
+      by : NowMissing bytes 0 (w .n) p ⊎ GoalMissing bytes 0 (w .n) p
+          → FirstNo (recordQuestions (w .n) bytes ++ planQuestions m (nows bytes 0 (w .n)) (goals bytes 0 (w .n)) (lent (w .n))) 12 p
+      by (inl f) = inl (refl, (f .place, λ e. omega (arith, f .few)))
+      by (inr f) = inr (f .nows-there, inl (refl, (f .place, λ e. omega (arith, f .few))))
+
+-- ---- a whole sheet
+
+module _ {bytes : List ℕ} {n m e : ℕ} (w : IsWhole bytes 0 n m e) where
+  abbrev s : State
+  s = nows bytes 0 n
+
+  abbrev g : State
+  g = goals bytes 0 n
+
+  tail-way : (space : List ℕ) {r : Planned} → length bytes ≢ e → r ≡ refusedAs m 12 (2 * n + 1) → Answered bytes r space
+  unfolding sheetQuestions asksMethod asksSize asksNows asksGoals asksTail
+  tail-way space ne =
+      behind-way bytes (w .head) space 12 (2 * n + 1)
+      (λ i. inr (i, inr (w .small, inr (w .nows-there, inr (w .goals-there, inl (refl, (refl, λ f. ne (f ∙ sym (w .end)))))))))
+
+  module _ (exact : length bytes ≡ e) (space : List ℕ) (room : 4 * most ≤ length space) where
+    -- the questions of the records have a yes, so planning's are asked;
+    then-plan : firstNo (sheetQuestions n m bytes) ≡ firstNo (planQuestions m s g (lent n))
+    unfolding sheetQuestions planQuestions asksSize asksNows asksGoals asksTail
+    then-plan =
+        let rows : AllYes (middle n bytes) = (w .small, (w .nows-there, (w .goals-there, (exact ∙ w .end, tt)))) in
+        without-yes (asksMethod m ∷ []) (middle n bytes) (planQuestions m s g (lent n)) (middle-decides n bytes) rows
+        ∙ once (asksMethod m) (problemQuestions s g ++ (asksRoom (4 * length s) (lent n) ∷ asksPlan (planOutcome m s g) ∷ []))
+
+    -- and they ask nothing of the lent space but its length
+    same-plan : firstNo (planQuestions m s g (lent n)) ≡ firstNo (planQuestions m s g space)
+    same-plan =
+        without-room m s g (lent n) (omega (arith, length-replicate {A = ℕ} (4 * n) 0, w .nows-there))
+        ∙ sym (without-room m s g space (omega (arith, room, w .nows-there, w .small)))
+
+    plan-way : (r : Planned) {space′ : List ℕ} → Plans m s g space r space′ → Answered bytes r space′
+    unfolding sheetResponse
+    plan-way (Refused k p) v = asked-no bytes (w .head) _ (then-plan ∙ same-plan ∙ sym (v .asked))
+    plan-way (Made c d) v =
+        let all = same-plan ∙ made-yes v in
+        record {
+          same = made-records v (lent n) all ∙ sym (ap (λ a. reply a (planRecords m s g (lent n))) (then-plan ∙ all)) ∙ responds bytes (w .head) space;
+          writable = made-writable v;
+        }
+
+-- ---- every case
+
+module _ {bytes initial goal : List ℕ} {sheet : Sheet} {initial′ goal′ : List ℕ} (w : ReadsSheet bytes 0 initial goal sheet initial′ goal′) where
+  pub askable : Askable sheet
+  askable = record { small = λ n m e f. read.whole-small w f }
+
+  pub answered : {space : List ℕ} {r : Planned} {space′ : List ℕ} → 4 * most ≤ length space → Asks sheet (length bytes) initial′ goal′ space r space′
+      → Answered bytes r space′
+  answered {space} {r} {space′} room v = by sheet refl (v .by-case)
+    where
+      by : (s : Sheet) → sheet ≡ s → AsksBy s (length bytes) initial′ goal′ space r space′ → Answered bytes r space′
+      by Headless f e = headless-way space′ (read.headless w f) e
+      by (Long m) f e = long-way space′ (read.long w f) e
+      by (Broken m p) f e = broken-way space′ (read.broken w f) e
+      by (Whole n m e) f v = whole (same? (length bytes) e)
+        where
+          is : IsWhole bytes 0 n m e
+          is = read.whole w f
+
+          whole : (length bytes ≡ e) ⊎ (¬ (length bytes ≡ e)) → Answered bytes r space′
+          whole (inr ne) = tail-way is space′ ne (v .tail ne)
+          whole (inl exact) =
+              plan-way is exact space room r (rw (read.whole-initial w f, read.whole-goal w f) at (v .plans exact))
+
+  pub writable : {space : List ℕ} {r : Planned} {space′ : List ℕ} → 4 * most ≤ length space → Asks sheet (length bytes) initial′ goal′ space r space′
+      → Writable r space′
+  writable room v = answered room v .writable

@@ -1,0 +1,4 @@
+pub mod Sheets
+pub mod Reads
+pub mod Cases
+pub mod Example

@@ -1,0 +1,141 @@
+"""A case: an operation with what it is lent. It is made here, written as a line, and answered by the reading.
+
+As a line: `plan m=2 now=2,0 goal=0,1 space=8`.
+"""
+
+from collections.abc import Iterable, Iterator, Sequence
+from typing import NamedTuple
+
+import reading
+from reading import METHODS, Pair, Yard
+
+# The operations that are lent space.
+SPACED = ("plan", "deadlock")
+
+
+class Case(NamedTuple):
+    """A call: the operation, the two lists, and what only some operations take."""
+
+    operation: str
+    now: Yard
+    goal: Yard
+    method: int = 0
+    space: int = 0
+    lifts: Sequence[int] = ()
+
+
+class Answer(NamedTuple):
+    """The numbers of an answer in the header's order, and the pairs written to the front of the space."""
+
+    numbers: tuple[int, ...]
+    pairs: list[Pair]
+
+
+def flat(pairs: Iterable[Sequence[int]]) -> list[int]:
+    """The numbers of some pairs."""
+    return [number for pair in pairs for number in pair]
+
+
+def paired(numbers: Sequence[int]) -> list[Pair]:
+    """The pairs of some numbers."""
+    return list(zip(numbers[::2], numbers[1::2]))
+
+
+# ---- one case of each operation
+
+
+def checking(now: Yard, goal: Yard) -> Case:
+    """A case of check."""
+    return Case("check", now, goal)
+
+
+def replaying(now: Yard, goal: Yard, lifts: Sequence[int] = ()) -> Case:
+    """A case of replay, its list given as numbers."""
+    return Case("replay", now, goal, lifts=lifts)
+
+
+def following(now: Yard, goal: Yard, pairs: Sequence[Pair]) -> Case:
+    """A case of replay, its list given as pairs."""
+    return replaying(now, goal, flat(pairs))
+
+
+def planning(method: int, now: Yard, goal: Yard, space: int | None = None) -> Case:
+    """A case of planning; where no space is given it is just large enough."""
+    return Case("plan", now, goal, method, reading.plan_space(len(now)) if space is None else space)
+
+
+def testing(now: Yard, goal: Yard, space: int | None = None) -> Case:
+    """A case of the deadlock test; where no space is given it is just large enough."""
+    return Case("deadlock", now, goal, space=reading.deadlock_space(len(now)) if space is None else space)
+
+
+def by_all(now: Yard, goal: Yard, space: int | None = None) -> Iterator[Case]:
+    """A sheet by each method and by the deadlock test."""
+    for method in METHODS:
+        yield planning(method, now, goal, space)
+    yield testing(now, goal, space)
+
+
+def operations(now: Yard, goal: Yard, lifts: Sequence[int] = ()) -> Iterator[Case]:
+    """A sheet by every operation, the space just large enough."""
+    yield checking(now, goal)
+    yield from by_all(now, goal)
+    yield replaying(now, goal, lifts)
+
+
+# ---- the answer of the reading
+
+
+def read(case: Case) -> Answer:
+    """What the reading answers and writes."""
+    now, goal, pairs = case.now, case.goal, []
+    numbers: Sequence[int]
+    if case.operation == "check":
+        numbers = reading.check(now, goal)
+    elif case.operation == "plan":
+        *numbers, pairs = reading.plan(case.method, now, goal, case.space)
+    elif case.operation == "deadlock":
+        *numbers, pairs = reading.deadlock(now, goal, case.space)
+    else:
+        numbers = reading.replay(now, goal, case.lifts)
+    return Answer(tuple(numbers), pairs)
+
+
+# ---- a case as a line
+
+
+def listed(numbers: Iterable[int]) -> str:
+    """Numbers as a line has them; `-` where there are none."""
+    return ",".join(map(str, numbers)) or "-"
+
+
+def numbers_of(text: str) -> list[int]:
+    """The numbers of a comma-separated list."""
+    return [] if text in ("-", "") else [int(word) for word in text.split(",")]
+
+
+def line(case: Case) -> str:
+    """A case as a line."""
+    words = [case.operation]
+    if case.operation == "plan":
+        words.append(f"m={case.method}")
+    words += [f"now={listed(case.now)}", f"goal={listed(case.goal)}"]
+    if case.operation in SPACED:
+        words.append(f"space={case.space}")
+    if case.operation == "replay":
+        words.append(f"lifts={listed(case.lifts)}")
+    return " ".join(words)
+
+
+def case_of(text: str) -> Case:
+    """The case of a line."""
+    operation, *words = text.split()
+    named = dict(word.split("=", 1) for word in words)
+    return Case(
+        operation,
+        numbers_of(named["now"]),
+        numbers_of(named["goal"]),
+        int(named.get("m", 0)),
+        int(named.get("space", 0)),
+        numbers_of(named.get("lifts", "-")),
+    )

@@ -1,0 +1,262 @@
+"""Sheets for the tests: those that document 01 states, those whose lists are known in closed form, and random ones."""
+
+import itertools
+import random
+from collections.abc import Callable, Iterator, Sequence
+from typing import NamedTuple
+
+import reading
+from reading import MOST, Pair, Yard
+
+SEED = 4001
+RANDOM_SHEETS = 600
+RANDOM_RINGS = 100
+
+Sheet = tuple[Yard, Yard]
+
+
+# ---- document 01
+
+
+class End(NamedTuple):
+    """A sheet with a known end: the list of a method, and the deadlock pairs where document 01 states them."""
+
+    now: list[int]
+    goal: list[int]
+    method: int
+    pairs: list[Pair]
+    loop: list[Pair] | None
+
+
+ENDS = [
+    End([], [], 1, [], []),
+    End([2, 0], [0, 1], 2, [(1, 0), (2, 1)], []),
+    End([0, 0, 1], [2, 3, 0], 1, [(3, 0), (2, 3), (1, 2)], None),
+    End([0, 0, 1], [2, 3, 0], 2, [(3, 0), (2, 3), (1, 2)], None),
+    End([0, 0, 1], [2, 3, 0], 3, [(3, 0), (2, 3), (1, 2)], None),
+    End([2, 0, 4, 0], [4, 0, 2, 0], 2, [(1, 0), (3, 2), (1, 4)], [(1, 4), (3, 2)]),
+    End([2, 3, 0, 5, 0], [5, 0, 0, 3, 2], 2, [(1, 0), (2, 0), (4, 3), (5, 2), (1, 5)], [(1, 2)]),
+    End([2, 3, 0, 5, 0], [5, 0, 0, 3, 2], 3, [(1, 0), (2, 0), (4, 3), (5, 2), (1, 5)], [(1, 2)]),
+    End([2, 3, 0], [2, 0, 0], 2, [(1, 0), (2, 0), (1, 2)], None),
+]
+
+# S1 to S6.
+STATED: list[Sheet] = list(dict.fromkeys((tuple(end.now), tuple(end.goal)) for end in ENDS))
+
+# Lift counts of method 1, and "changed", that it states without a list: now, goal, lifts, changed.
+COUNTS: list[tuple[list[int], list[int], int | None, int | None]] = [
+    ([2, 0, 4, 0], [4, 0, 2, 0], 4, None),
+    ([2, 3, 0, 5, 0], [5, 0, 0, 3, 2], 6, None),
+    ([2, 3, 0], [2, 0, 0], None, 1),
+]
+
+# The sheets that it refuses: now, goal, number, place.
+REFUSED: list[tuple[list[int], list[int], int, int]] = [
+    ([2, 1, 5], [0, 0, 0], 4, 3),
+    ([0, 1, 1], [0, 0, 0], 5, 3),
+    ([1], [0], 6, 1),
+]
+
+# Sheets that tell readings of the loop apart: a walk that starts off it, and methods 2 and 3 with different lists.
+TRIALS: list[Sheet] = [
+    ([0, 6, 7, 8, 9, 0, 0, 0, 0], [8, 7, 6, 9, 1, 0, 0, 0, 0]),
+    ([0, 0, 2, 5, 1], [0, 0, 1, 2, 4]),
+    ([3, 0, 4, 0, 2, 1], [2, 0, 1, 0, 4, 5]),
+]
+
+
+# ---- closed forms, and sheets that are hard in one way
+
+
+class Known(NamedTuple):
+    """A sheet with its lists in closed form: method 1's, that of methods 2 and 3, and the deadlock pairs."""
+
+    now: list[int]
+    goal: list[int]
+    first: list[Pair]
+    others: list[Pair]
+    loop: list[Pair]
+
+    def pairs(self, method: int) -> list[Pair]:
+        """The list of a method."""
+        return self.first if method == 1 else self.others
+
+
+def tower(n: int) -> list[int]:
+    """One pile with slab 1 at its foot."""
+    return list(range(n))
+
+
+def copies(now: Yard, goal: Yard, n: int) -> tuple[list[int], list[int]]:
+    """A sheet repeated to about n slabs."""
+    firsts = range(0, n - len(now) + 1, len(now))
+    many = [[x and x + first for first in firsts for x in yard] for yard in (now, goal)]
+    return many[0], many[1]
+
+
+def turned(n: int) -> Known:
+    """One pile to be turned over: method 1 puts all but the foot down and builds; the others build at once."""
+    built = [(slab, slab - 1) for slab in range(2, n + 1)]
+    down = [(slab, 0) for slab in range(1, n)]
+    return Known([*range(2, n + 1), 0], tower(n), down + built, down[:1] + built, [])
+
+
+def exchanged(n: int) -> Known:
+    """Two piles of two that exchange their upper slabs, n / 4 times: as many deadlocks of two slabs."""
+    feet = range(0, n, 4)
+    now, goal = copies([2, 0, 4, 0], [4, 0, 2, 0], n)
+    down = [(k + s, 0) for k in feet for s in (1, 3)]
+    up = [pair for k in feet for pair in ((k + 1, k + 4), (k + 3, k + 2))]
+    others = [pair for k in feet for pair in ((k + 1, 0), (k + 3, k + 2), (k + 1, k + 4))]
+    return Known(now, goal, down + up, others, [(1, 4), (3, 2)])
+
+
+def ring(n: int) -> Known:
+    """n / 2 piles of two, each upper slab bound for the next pile; with n odd slab 1, bound for 2, starts the walk."""
+    beside, half = n % 2, n // 2
+    feet = [0] * half
+    first, foot = beside + 1, beside + half + 1
+    now = [*[0] * beside, *range(foot, n + 1), *feet]
+    goal = [*[2] * beside, *range(foot + 1, n + 1), foot, *feet]
+    up = [(slab, goal[slab - 1]) for slab in range(first, foot)]
+    down = [(slab, 0) for slab in range(first, foot)]
+    last = [(1, 2)] * beside
+    return Known(now, goal, [*down, up[0], *last, *up[1:]], [down[0], *reversed(up), *last], up)
+
+
+# The closed forms, each with the numbers of slabs at which the reading confirms it.
+KNOWN = ((turned, range(2, 17)), (exchanged, range(4, 17, 4)), (ring, range(4, 17)))
+
+
+def full_yards() -> Iterator[Known]:
+    """The closed forms for as many slabs as a sheet may have; the ring also with a slab beside it."""
+    for make, _ in KNOWN:
+        yield make(MOST)
+    yield ring(MOST - 1)
+
+
+def families(n: int) -> Iterator[Sheet]:
+    """Sheets of about n slabs that are hard in one way each; n is a multiple of 4."""
+    yield turned(n).goal, turned(n).now
+    yield [0] * n, tower(n)
+    yield exchanged(n)[:2]
+    yield copies([2, 3, 0, 5, 0], [5, 0, 0, 3, 2], n)
+    yield ring(n)[:2]
+    # k slabs that wait in a row before a pile whose top slab is in its own way.
+    k = n // 4
+    pile = list(range(2 * k + 1, n))
+    now = [*range(k + 1, 2 * k + 1), *[0] * k, 0, *pile]
+    yield now, [*range(k + 2, 2 * k + 2), *[0] * k, 0, 0, *pile[1:]]
+
+
+# ---- every small sheet
+
+
+def arrangements(n: int) -> list[tuple[int, ...]]:
+    """Every sound arrangement of n slabs."""
+    entries = itertools.product(range(n + 1), repeat=n)
+    return [yard for yard in entries if reading.arrangement_fault(yard) == (0, 0)]
+
+
+def small_sheets() -> Iterator[Sheet]:
+    """Every accepted sheet of at most three slabs."""
+    for n in range(4):
+        yield from itertools.product(arrangements(n), repeat=2)
+
+
+# ---- random sheets
+
+
+def piled(order: Sequence[int], cut: Callable[[], bool]) -> list[int]:
+    """Slabs piled in an order, a new pile begun at each cut."""
+    yard = [0] * len(order)
+    for below, slab in itertools.pairwise(order):
+        yard[slab - 1] = 0 if cut() else below
+    return yard
+
+
+def random_piles(rng: random.Random, n: int) -> list[int]:
+    """A sound arrangement of n slabs in random piles."""
+    order = list(range(1, n + 1))
+    rng.shuffle(order)
+    return piled(order, lambda: rng.randint(0, 9) >= 7)
+
+
+def regrouped(rng: random.Random, n: int, feet: int) -> Sheet:
+    """A sheet whose other slabs are stacked at random on the same feet, now and in the goal: it has longer loops."""
+    slabs = rng.sample(range(1, n + 1), n)
+    yards = [0] * n, [0] * n
+    for yard in yards:
+        tops = slabs[:feet]
+        for slab in rng.sample(slabs[feet:], n - feet):
+            at = rng.randrange(feet)
+            yard[slab - 1], tops[at] = tops[at], slab
+    return yards
+
+
+def random_sheet(rng: random.Random, n: int, kind: int) -> Sheet:
+    """A random sheet of one of three kinds: any piles, and the slabs regrouped on few or many feet."""
+    if kind == 0:
+        return random_piles(rng, n), random_piles(rng, n)
+    return regrouped(rng, n, (n + 1) // (4 - kind))
+
+
+def renumbered(rng: random.Random, now: Yard, goal: Yard) -> Sheet:
+    """A sheet with other numbers for its slabs."""
+    n = len(now)
+    names = [0, *rng.sample(range(1, n + 1), n)]
+    yards = [0] * n, [0] * n
+    for yard, old in zip(yards, (now, goal)):
+        for slab in range(1, n + 1):
+            yard[names[slab] - 1] = names[old[slab - 1]]
+    return yards
+
+
+def random_sheets() -> Iterator[Sheet]:
+    """Random sheets of four to eight slabs, and small rings whose loops may be entered at any slab."""
+    rng = random.Random(SEED)
+    for number in range(RANDOM_SHEETS):
+        yield random_sheet(rng, 4 + number // 3 % 5, number % 3)
+    for number in range(RANDOM_RINGS):
+        known = ring(5 + number % 2 * 2)
+        yield renumbered(rng, known.now, known.goal)
+
+
+class Walk:
+    """An arrangement that random lifts are made in."""
+
+    def __init__(self, rng: random.Random, yard: Yard) -> None:
+        """The arrangement before the lifts."""
+        self.rng, self.yard = rng, list(yard)
+        self.under = set(yard) - {0}
+        self.clear = [slab for slab in reading.slabs(yard) if slab not in self.under]
+
+    def any_pair(self) -> Pair:
+        """Any slab and any destination, a lift or not."""
+        return self.rng.randint(1, len(self.yard)), self.rng.randint(0, len(self.yard))
+
+    def clear_pair(self) -> Pair:
+        """A clear slab, and the ground or a clear slab: in high piles a lift sooner than any pair."""
+        return self.rng.choice(self.clear), self.rng.choice([0, *self.rng.choices(self.clear, k=2)])
+
+    def lift(self, slab: int, place: int) -> tuple[int, int, int] | None:
+        """Makes a lift and gives slab, destination and where the slab rested; None for a pair that is none."""
+        rested = self.yard[slab - 1]
+        if slab in self.under or place in self.under or place in (slab, rested):
+            return None
+        self.yard[slab - 1] = place
+        if place:
+            self.clear.remove(place)
+            self.under.add(place)
+        if rested:
+            self.clear.append(rested)
+            self.under.remove(rested)
+        return slab, place, rested
+
+    def lifts(self, wished: int, pair: Callable[[], Pair]) -> list[tuple[int, int, int]]:
+        """Random lifts, as many as wished; none where the yard has none."""
+        made: list[tuple[int, int, int]] = []
+        while len(made) < wished and len(self.yard) > 1:
+            if lift := self.lift(*pair()):
+                made.append(lift)
+        return made
