@@ -3,7 +3,7 @@ use mathlib.Core.Path.{_≡_, refl, sym, ap, ap₂, _∙_, subst}
 use mathlib.Core.Logic.{_⊎_, inl, inr, _↔_, Iff·rfl, Iff·trans, Iff·and, and-true}
 use mathlib.Core.List.{List, [], _∷_, _++_}
 use mathlib.Core.Option.{Option, none, some}
-use Prim.Native.Nat.{ℕ, _*_, _%_, _≤_}
+use Prim.Native.Nat.{ℕ, _+_, _*_, _%_, _≤_}
 use native.Mathlib.Omega.{arith}
 use lib.ListN.{length, take, drop}
 use lib.Seq.{take-append-seam}
@@ -13,18 +13,20 @@ use Rattle.blocks.specs.Move.{Plan, Solves}
 use Rattle.blocks.specs.Tests.{changed}
 use Rattle.blocks.specs.Loop.{memberᵇ}
 use Rattle.blocks.specs.Method.{Method, Us, Gn1, Gn2, plan, outcome, built, deadlockLoop, deadlockPairs, methodOf, numberOf, outcomeBy, planOf, planOutcome}
-use Rattle.blocks.specs.Question.{Question, Asked, allYes, no′, firstNo, AllYes, FirstNo, IsMethod, asksMethod, asksRoom, asksEven, asksPlan}
-use Rattle.blocks.specs.Question.{problemQuestions, planQuestions, deadlockQuestions, replayQuestions, Refused, PlanRefused}
+use Rattle.blocks.specs.Question.{Question, Asked, allYes, no′, firstNo, AllYes, FirstNo, IsMethod, asksMethod, asksSize, asksRoom, asksEven, asksPlan}
+use Rattle.blocks.specs.Question.{problemQuestions, planQuestions, deadlockQuestions, replayQuestions, Refused, PlanRefused, DeadlockRefused}
+use Rattle.blocks.specs.Steps.{By}
 use Rattle.blocks.specs.Replay.{Replayed}
 use Rattle.blocks.specs.Answer.{flat, moves, checked, checkAnswer, planned, written, PlanAnswer, planAnswer, planSpace}
 use Rattle.blocks.specs.Answer.{tested, deadlockAnswer, deadlockSpace, replayed, replayFrom, replayAnswer}
+use Rattle.blocks.specs.Sheets.{Limits}
 use Rattle.blocks.proofs.MethodLaws.{method-written}
 use Rattle.blocks.proofs.DeadlockTestLaws.{pairs-length}
 use Rattle.blocks.proofs.FlatLaws.{length-flat, pairs-back}
 use Rattle.blocks.proofs.QuestionLaws.{first-no, sentence-append, other-number}
 use Rattle.blocks.proofs.DecidedLaws.{problem-order, replay-order, problem-yes, then-yes, accepts, refuses}
 use Rattle.blocks.proofs.ReplayLaws.{replay-verdict, replay-arrives}
-use Rattle.blocks.proofs.AnswerLaws.{plan-decides, deadlock-decides, replay-decides, replay-refuses, replay-refusal}
+use Rattle.blocks.proofs.AnswerLaws.{plan-decides, plan-refusal, deadlock-decides, deadlock-refusal, replay-decides, replay-refuses, replay-refusal}
 
 -- ---- all is answered yes
 
@@ -148,15 +150,57 @@ replay-says s g lifts = (from (firstNo (replayQuestions s g lifts)) refl, λ w. 
         let r = replay-refuses s g lifts k p .0 e in
         absurd (other-number (replayQuestions s g lifts) 0 (ap (memberᵇ 0) (replay-order s g lifts)) k p r (ap (λ a. a .number) (sym (replay-refusal s g lifts k p r) ∙ h)))
 
--- the list in the lent space
-pub written-solves : (m : Method) (s g : State) (space : List ℕ) → Accepted s g → 4 * length s ≤ length space
-    → Solves s g (moves (take (2 * (planAnswer (numberOf m) s g space) .count) (planSpace (numberOf m) s g space)))
-written-solves m s g space a h =
-    let w = method-written m s g (a .problem) in
-    let p = w .0 in
-    let r = plan-answers m s g space a h p (w .1) in
-    let front : take (2 * length p) (flat p ++ drop (2 * length p) space) ≡ flat p =
-    ap (λ k. take k (flat p ++ drop (2 * length p) space)) (sym (length-flat p)) ∙ take-append-seam (flat p) (drop (2 * length p) space) in
-    let same : moves (take (2 * (planAnswer (numberOf m) s g space) .count) (planSpace (numberOf m) s g space)) ≡ p =
-    ap₂ (λ (o : PlanAnswer) l. moves (take (2 * o .count) l)) (r .0) (r .1) ∙ ap moves front ∙ pairs-back p in
-    subst (Solves s g) (sym same) (w .2 .solves)
+-- the list in the lent space is the method's plan
+written-list : Method → State → State → List ℕ → Plan
+written-list m s g space = moves (take (2 * (planAnswer (numberOf m) s g space) .count) (planSpace (numberOf m) s g space))
+
+module _ (m : Method) (s g : State) (space : List ℕ) (a : Accepted s g) (h : 4 * length s ≤ length space) where
+  written-is : written-list m s g space ≡ method-written m s g (a .problem) .0
+  unfolding written-list
+  written-is =
+      let p = method-written m s g (a .problem) .0 in
+      let r = plan-answers m s g space a h p (method-written m s g (a .problem) .1) in
+      let front : take (2 * length p) (flat p ++ drop (2 * length p) space) ≡ flat p =
+      ap (λ k. take k (flat p ++ drop (2 * length p) space)) (sym (length-flat p)) ∙ take-append-seam (flat p) (drop (2 * length p) space) in
+      ap₂ (λ (o : PlanAnswer) l. moves (take (2 * o .count) l)) (r .0) (r .1) ∙ ap moves front ∙ pairs-back p
+
+  pub written-solves : Solves s g (moves (take (2 * (planAnswer (numberOf m) s g space) .count) (planSpace (numberOf m) s g space)))
+  unfolding written-list
+  written-solves = subst (Solves s g) (sym written-is) (method-written m s g (a .problem) .2 .solves)
+
+  pub written-told : By m s g (moves (take (2 * (planAnswer (numberOf m) s g space) .count) (planSpace (numberOf m) s g space)))
+  unfolding written-list
+  written-told = subst (By m s g) (sym written-is) (method-written m s g (a .problem) .2 .told)
+
+-- ---- the limits of sheets and of the lent space
+
+-- one entry too many, and one number too few
+long-refused : (s g : State) → length s ≡ 4001 → Refused s g 2 0
+unfolding problemQuestions asksSize
+long-refused s g e = inl (refl, (refl, λ h. absurd (omega (arith, e, h))))
+
+room-no : (needed : ℕ) (space : List ℕ) (rest : List Question) → length space + 1 ≡ needed → FirstNo (asksRoom needed space ∷ rest) 10 0
+unfolding asksRoom
+room-no needed space rest e = inl (refl, (refl, λ h. absurd (omega (arith, e, h))))
+
+plan-cramped : (m : Method) (s g : State) (space : List ℕ) → Accepted s g → length space + 1 ≡ 4 * length s → PlanRefused (numberOf m) s g space 10 0
+unfolding planQuestions asksMethod
+plan-cramped m s g space a e =
+    inr (is-method m, sentence-append (problemQuestions s g) _ 10 0 .1 (inr (problem-yes s g .1 a, room-no (4 * length s) space (asksPlan (planOutcome (numberOf m) s g) ∷ []) e)))
+
+deadlock-cramped : (s g : State) (space : List ℕ) → Accepted s g → length space + 1 ≡ 2 * length s → DeadlockRefused s g space 10 0
+unfolding deadlockQuestions
+deadlock-cramped s g space a e = sentence-append (problemQuestions s g) _ 10 0 .1 (inr (problem-yes s g .1 a, room-no (2 * length s) space [] e))
+
+pub limits : Limits
+limits =
+    record {
+      most-passes = λ s g e p. check-accepts s g .1 (record { small = omega (arith, e); problem = p });
+      more-refused = λ s g e. check-refuses s g 2 0 (long-refused s g e);
+      room-passes = λ m s g space a e.
+          let w = method-written m s g (a .problem) in
+          ap (λ o. o .number) (plan-answers m s g space a (omega (arith, e)) (w .0) (w .1) .0);
+      room-refused = λ m s g space a e. plan-refusal (numberOf m) s g space 10 0 (plan-cramped m s g space a e) .0;
+      pairs-pass = λ s g space a e. ap (λ o. o .number) (deadlock-answers s g space a (omega (arith, e)) .0);
+      pairs-refused = λ s g space a e. deadlock-refusal s g space 10 0 (deadlock-cramped s g space a e) .0;
+    }

@@ -9,25 +9,27 @@ use native.Mathlib.Nat.{le-of-suc-le-suc}
 use lib.ListN.{length, getD}
 use Rattle.blocks.specs.State.{State}
 use Rattle.blocks.specs.Position.{Problem}
-use Rattle.blocks.specs.Move.{Plan, Constructive, after}
+use Rattle.blocks.specs.Move.{Plan, after}
 use Rattle.blocks.specs.Tests.{misplacedCount}
 use Rattle.blocks.specs.Deadlock.{Deadlock}
 use Rattle.blocks.specs.Loop.{loop, blocker, onward, blockedPairs}
 use Rattle.blocks.specs.Method.{endOf, built, deadlockLoop, deadlockPairs}
 use Rattle.blocks.specs.Demands.{NoDeadlock, Shown}
 use Rattle.blocks.specs.Stall.{IsLoop, NoneReady}
+use Rattle.blocks.specs.Steps.{Builds}
 use Rattle.lists.proofs.ReflectLaws.{Reflects, holds, fails, eqb-reflects}
 use Rattle.blocks.proofs.DeadlockLaws.{deadlock-stands, deadlock-old}
-use Rattle.blocks.proofs.MisplacedLaws.{none-misplaced}
+use Rattle.blocks.proofs.MisplacedLaws.{none-misplaced, some-misplaced}
 use Rattle.blocks.proofs.LoopLaws.{loop-closed, loop-short, onward-closed, onward-length, onward-lowest, loop-deadlock}
 use Rattle.blocks.proofs.RunLaws.{Run, run-end, run-with, run-back}
-use Rattle.blocks.proofs.MethodLaws.{building-runs, enough, some-misplaced}
+use Rattle.blocks.proofs.StepLaws.{builds-constructive}
+use Rattle.blocks.proofs.MethodLaws.{building-runs, enough}
 
 -- the run of constructive moves to the built state
-abbrev Builds : State → State → Plan → Type 0
-Builds g s p = Run (λ t. Problem t g) (λ t. Constructive t g) (λ t. NoneReady t g) s p
+abbrev Building : State → State → Plan → Type 0
+Building g s p = Run (λ t. Problem t g) (Builds g) (λ t. NoneReady t g) s p
 
-built-run : {s g : State} → Problem s g → (p : Plan) × (built s g ≡ after s p) × Builds g s p
+built-run : {s g : State} → Problem s g → (p : Plan) × (built s g ≡ after s p) × Building g s p
 unfolding built
 built-run {s} {g} p = let r = building-runs _ s g p (enough p) in (r .0, ap (endOf s) (r .1), r .2)
 
@@ -41,13 +43,13 @@ pub record Built (s g t : State) : Type 0 where
 pub built-is : {s g : State} → Problem s g → Built s g (built s g)
 built-is {s} {g} p = let r = built-run p in subst (Built s g) (sym (r .1)) (at (r .0) (r .2))
   where
-    at : (q : Plan) → Builds g s q → Built s g (after s q)
+    at : (q : Plan) → Building g s q → Built s g (after s q)
     at q r =
         record {
           problem = run-end r .0;
           stalled = run-end r .1;
-          keeps = λ {k} {b} {d} h. run-end (run-with (λ t. Deadlock t g k b d) (λ t a x i c w. deadlock-stands i w c) h r) .0 .1;
-          had = λ {k} {b} {d} h. run-back (λ t. Deadlock t g k b d) (λ t a x i c w. deadlock-old c w) r h;
+          keeps = λ {k} {b} {d} h. run-end (run-with (λ t. Deadlock t g k b d) (λ t a x i c w. deadlock-stands i w (builds-constructive c)) h r) .0 .1;
+          had = λ {k} {b} {d} h. run-back (λ t. Deadlock t g k b d) (λ t a x i c w. deadlock-old (builds-constructive c) w) r h;
         }
 
 -- ---- the pairs

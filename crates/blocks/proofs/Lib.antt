@@ -10,6 +10,7 @@ pub mod BoundLaws
 pub mod MovedLaws
 pub mod StallLaws
 pub mod LoopLaws
+pub mod LoopToldLaws
 pub mod MeasureLaws
 pub mod RunLaws
 pub mod StepLaws

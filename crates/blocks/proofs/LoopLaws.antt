@@ -13,35 +13,32 @@ use lib.ListN.{length, getD, length-append, List·getD-append}
 use lib.Seq.{getD-at}
 use Rattle.blocks.specs.State.{State, Block, Above}
 use Rattle.blocks.specs.Position.{Problem, Misplaced}
-use Rattle.lists.specs.Search.{lowest, count}
+use Rattle.lists.specs.Search.{lowest, count, Lowest}
 use Rattle.blocks.specs.Tests.{waitingᵇ}
 use Rattle.blocks.specs.Loop.{blocker, top, successor, memberᵇ, from, before, walk, loop, lowestOf, onward}
 use Rattle.blocks.specs.Deadlock.{wrap, next, Deadlock}
 use Rattle.blocks.specs.Stall.{IsLoop, NoneReady, Perched, Waiting}
-use Rattle.lists.proofs.ReflectLaws.{Reflects, holds, fails, from-true, to-true, to-false, not-not, reflects-or, reflects-iff, eqb-reflects, leb-reflects, ltb-reflects}
-use Rattle.lists.proofs.SearchLaws.{lowest-passes, lowest-first, lowest-none, count-all, count-one-more}
+use Rattle.blocks.specs.Steps.{On}
+use Rattle.lists.proofs.ReflectLaws.{Reflects, holds, fails, from-true, to-true, to-false, decided, not-not, reflects-or, reflects-iff, eqb-reflects, leb-reflects, ltb-reflects}
+use Rattle.lists.proofs.SearchLaws.{lowest-passes, lowest-first, lowest-none, lowest-found, count-all, count-one-more}
 use Rattle.blocks.proofs.PositionLaws.{misplaced-block, waiting-test}
 use Rattle.blocks.proofs.StallLaws.{above-off-table, waiting-above, successor-waits}
 
 -- ---- membership
 
--- x is an entry of the list
-abbrev Entry : ℕ → List ℕ → Type 0
-Entry x l = (i : ℕ) × (i < length l) × (x ≡ getD l i 0)
-
-member-reflects : (x : ℕ) (l : List ℕ) → Reflects (Entry x l) (memberᵇ x l)
+pub member-reflects : (x : ℕ) (l : List ℕ) → Reflects (On l x) (memberᵇ x l)
 member-reflects x [] = fails (λ m. absurd (omega (arith, m .1)))
 member-reflects x (y ∷ l) = reflects-iff into out (reflects-or (eqb-reflects x y) (member-reflects x l))
   where
-    into : (x ≡ y) ⊎ Entry x l → Entry x (y ∷ l)
+    into : (x ≡ y) ⊎ On l x → On (y ∷ l) x
     into (inl e) = (0, omega arith, e)
     into (inr m) = (suc (m .0), omega (arith, m .1), m .2)
 
-    at : (i : ℕ) → i < suc (length l) → x ≡ getD (y ∷ l) i 0 → (x ≡ y) ⊎ Entry x l
+    at : (i : ℕ) → i < suc (length l) → x ≡ getD (y ∷ l) i 0 → (x ≡ y) ⊎ On l x
     at zero h e = inl e
     at (suc i) h e = inr (i, le-of-suc-le-suc h, e)
 
-    out : Entry x (y ∷ l) → (x ≡ y) ⊎ Entry x l
+    out : On (y ∷ l) x → (x ≡ y) ⊎ On l x
     out m = at (m .0) (m .1) (m .2)
 
 member-append : (x : ℕ) (l m : List ℕ) → memberᵇ x (l ++ m) ≡ (memberᵇ x l || memberᵇ x m)
@@ -56,7 +53,7 @@ member-other : (c b : ℕ) (l : List ℕ) → c ≢ b → memberᵇ c (l ++ (b �
 member-other c b l h = member-append c l (b ∷ []) ∙ ap (λ t. memberᵇ c l || (t || false)) (to-false (eqb-reflects c b) h) ∙ or-false (memberᵇ c l)
 
 -- the parts before x and from x on
-before-from : (x : ℕ) (l : List ℕ) → before x l ++ from x l ≡ l
+pub before-from : (x : ℕ) (l : List ℕ) → before x l ++ from x l ≡ l
 before-from x [] = refl
 before-from x (y ∷ l) = go (eqb x y) (before-from x l)
   where
@@ -76,7 +73,7 @@ from-begins x (y ∷ l) h = go (eqb-reflects x y) h (from-begins x l)
 -- ---- walks
 
 -- from x to y by the list: each entry has W and is followed by its image under f, the last by y
-data Way (W : ℕ → Type 0) (f : ℕ → ℕ) : ℕ → List ℕ → ℕ → Type 0 where
+pub data Way (W : ℕ → Type 0) (f : ℕ → ℕ) : ℕ → List ℕ → ℕ → Type 0 where
   end : {x : ℕ} → Way W f x [] x
   step : {x y : ℕ} {l : List ℕ} → W x → Way W f (f x) l y → Way W f x (x ∷ l) y
 
@@ -90,7 +87,7 @@ module _ {W : ℕ → Type 0} {f : ℕ → ℕ} where
   way-split (a ∷ l) m (step h w) = let r = way-split l m w in (r .0, step h (r .1), r .2)
 
   -- by index
-  way-holds : {l : List ℕ} {x y : ℕ} → Way W f x l y → (i : ℕ) → i < length l → W (getD l i 0)
+  pub way-holds : {l : List ℕ} {x y : ℕ} → Way W f x l y → (i : ℕ) → i < length l → W (getD l i 0)
   way-holds end i h = absurd (omega arith)
   way-holds (step v w) zero h = v
   way-holds (step v w) (suc i) h = way-holds w i (le-of-suc-le-suc h)
@@ -99,7 +96,7 @@ module _ {W : ℕ → Type 0} {f : ℕ → ℕ} where
   way-first end = refl
   way-first (step v w) = refl
 
-  way-next : {l : List ℕ} {x y : ℕ} → Way W f x l y → (i : ℕ) → i < length l → f (getD l i 0) ≡ getD (l ++ (y ∷ [])) (suc i) 0
+  pub way-next : {l : List ℕ} {x y : ℕ} → Way W f x l y → (i : ℕ) → i < length l → f (getD l i 0) ≡ getD (l ++ (y ∷ [])) (suc i) 0
   way-next end i h = absurd (omega arith)
   way-next (step v w) zero h = way-first w
   way-next (step v w) (suc i) h = way-next w i (le-of-suc-le-suc h)
@@ -130,10 +127,10 @@ entry-next l i h = go (ltb-reflects (suc i) (length l))
     go (fails n) = getD-at l (getD l 0 0) [] 0 (suc i) (omega (arith, n))
 
 -- a walk of waiting blocks that is closed is a loop, and a loop is one
-abbrev Walk : State → State → ℕ → List ℕ → ℕ → Type 0
+abbrev pub Walk : State → State → ℕ → List ℕ → ℕ → Type 0
 Walk s g = Way (Waiting s g) (successor s g)
 
-walk-first : {s g : State} {l : List ℕ} {x y : ℕ} → Walk s g x l y → 1 ≤ length l → x ≡ getD l 0 0
+pub walk-first : {s g : State} {l : List ℕ} {x y : ℕ} → Walk s g x l y → 1 ≤ length l → x ≡ getD l 0 0
 walk-first end h = absurd (omega arith)
 walk-first (step v w) h = refl
 
@@ -155,7 +152,7 @@ loop-walk {s} {g} {l} c =
 from-length : (b : ℕ) (l : List ℕ) → length (from b l) ≤ length l
 from-length b l = omega (arith, simp length-append at (ap length (before-from b l)))
 
-from-some : (b : ℕ) (l : List ℕ) → memberᵇ b l ≡ true → 1 ≤ length (from b l)
+pub from-some : (b : ℕ) (l : List ℕ) → memberᵇ b l ≡ true → 1 ≤ length (from b l)
 from-some b l h = rw (from-begins b l h .1) (omega arith)
 
 -- how many blocks are not on the list
@@ -173,33 +170,70 @@ unseen-less s b l w h =
 lowest-there : (P : ℕ → Bool) (n c : ℕ) → 1 ≤ c → c ≤ n → P c ≡ true → lowest P n ≢ 0
 lowest-there P n c l h q z = true≢false (sym q ∙ lowest-none P n z c l h)
 
-module _ {s g : State} (p : Problem s g) (still : NoneReady s g) where
-  abbrev Short : List ℕ → Type 0
-  Short l = IsLoop s g l × (length l ≤ length s)
+-- no entry comes twice, and one more that was not there keeps it so
+abbrev pub Once : List ℕ → Type 0
+Once l = (i j : ℕ) → i < j → j < length l → getD l i 0 ≢ getD l j 0
 
+once-longer : (b : ℕ) (l : List ℕ) → memberᵇ b l ≡ false → Once l → Once (l ++ (b ∷ []))
+once-longer b l h once i j less there e =
+    let size : length (l ++ (b ∷ [])) ≡ length l + 1 = length-append l (b ∷ []) in
+    let inside : i < length l = omega (arith, size, there, less) in
+    at inside (sym (List·getD-append l (b ∷ []) 0 i inside) ∙ e) (decided (ltb-reflects j (length l)))
+  where
+    at : i < length l → getD l i 0 ≡ getD (l ++ (b ∷ [])) j 0 → (j < length l) ⊎ (¬ (j < length l)) → ⊥
+    at inside same (inl k) = once i j less k (same ∙ List·getD-append l (b ∷ []) 0 j k)
+    at inside same (inr n) =
+        let last : length l ≡ j = omega (arith, length-append l (b ∷ []), there, n) in
+        let is : b ≡ getD l i 0 = sym (same ∙ getD-at l b [] 0 j last) in
+        true≢false (sym (to-true (member-reflects b l) (i, inside, is)) ∙ h)
+
+-- what a walk from x gives: of the blocks visited, none twice, the part from the first visit of the one that returned
+pub record Returned (s g : State) (x : ℕ) (l : List ℕ) : Type 0 where
+  pub visited : List ℕ
+  pub again : ℕ
+  pub way : Walk s g x visited again
+  pub once : Once visited
+  pub met : memberᵇ again visited ≡ true
+  pub part : l ≡ from again visited
+  pub short : length visited ≤ length s
+
+module _ {s g : State} (p : Problem s g) (still : NoneReady s g) where
   -- the walk has come to b, and has fuel for every block that it has not seen
-  walk-closed : (k b x : ℕ) (seen : List ℕ) → Walk s g x seen b → Waiting s g b → length seen + unseen s seen ≡ length s → unseen s seen < k →
-      Short (walk s g k b seen)
+  walk-returns : (k b x : ℕ) (seen : List ℕ) → Walk s g x seen b → Waiting s g b → Once seen → length seen + unseen s seen ≡ length s → unseen s seen < k →
+      Returned s g x (walk s g k b seen)
   unfolding walk
-  walk-closed zero b x seen way w e h = absurd (omega arith)
-  walk-closed (suc k) b x seen way w e h =
-      go (memberᵇ b seen) refl (walk-closed k (successor s g b) x longer (way-append way (step w end)) (successor-waits p still b w .0))
+  walk-returns zero b x seen way w once e h = absurd (omega arith)
+  walk-returns (suc k) b x seen way w once e h =
+      go (memberᵇ b seen) refl (walk-returns k (successor s g b) x longer (way-append way (step w end)) (successor-waits p still b w .0))
     where
       longer : List ℕ
       longer = seen ++ (b ∷ [])
 
       go : (t : Bool) → memberᵇ b seen ≡ t →
-          (length longer + unseen s longer ≡ length s → unseen s longer < k → Short (walk s g k (successor s g b) longer)) →
-          Short (cond t (from b seen) (walk s g k (successor s g b) longer))
-      go true m rest = (walk-loop (from-some b seen m) (way-cut b seen m way .1), omega (arith, from-length b seen))
+          (Once longer → length longer + unseen s longer ≡ length s → unseen s longer < k → Returned s g x (walk s g k (successor s g b) longer)) →
+          Returned s g x (cond t (from b seen) (walk s g k (successor s g b) longer))
+      go true m rest =
+          record { visited = seen; again = b; way = way; once = once; met = m; part = refl; short = omega arith }
       go false m rest =
           let less : unseen s seen ≡ suc (unseen s longer) = unseen-less s b seen (misplaced-block (p .same) (w .0)) m in
-          rest (simp length-append (omega arith)) (omega arith)
+          rest (once-longer b seen m once) (simp length-append (omega arith)) (omega arith)
 
-  -- it begins at the lowest waiting block
-  loop-both : {b : ℕ} → Misplaced s g b → Short (loop s g)
+  -- where some block is misplaced there is a lowest waiting one
+  pub first-waits : {b : ℕ} → Misplaced s g b → Lowest (Waiting s g) (length s) (lowest (waitingᵇ s g) (length s))
+  first-waits {b} m = lowest-found (Waiting s g) (waitingᵇ s g) (length s) (λ c _ _. waiting-test s g (p .initial) c) found
+    where
+      found : lowest (waitingᵇ s g) (length s) ≢ 0
+      found =
+          let a = top s (length s) b in
+          let w = waiting-above p b m in
+          let k = misplaced-block (p .same) (w .0) in
+          lowest-there (waitingᵇ s g) (length s) a (k .low) (k .high) (to-true (waiting-test s g (p .initial) a) w)
+
+  -- the walk begins there
+  pub loop-returns : {b : ℕ} → Misplaced s g b → Returned s g (lowest (waitingᵇ s g) (length s)) (loop s g)
   unfolding loop unseen
-  loop-both {b} m = walk-closed (suc (length s)) start start [] end waits (omega (arith, all)) (omega (arith, all))
+  loop-returns {b} m =
+      walk-returns (suc (length s)) start start [] end (first-waits m .holds) (λ i j l h. absurd (omega arith)) (omega (arith, all)) (omega (arith, all))
     where
       start : ℕ
       start = lowest (waitingᵇ s g) (length s)
@@ -207,22 +241,14 @@ module _ {s g : State} (p : Problem s g) (still : NoneReady s g) where
       all : unseen s [] ≡ length s
       all = count-all (λ c. true) (length s) (λ c l h. refl)
 
-      found : start ≢ 0
-      found =
-          let a = top s (length s) b in
-          let w = waiting-above p b m in
-          let k = misplaced-block (p .same) (w .0) in
-          lowest-there (waitingᵇ s g) (length s) a (k .low) (k .high) (to-true (waiting-test s g (p .initial) a) w)
-
-      waits : Waiting s g start
-      waits = from-true (waiting-test s g (p .initial) start) (lowest-passes (waitingᵇ s g) (length s) found)
-
 pub loop-closed : {s g : State} → Problem s g → NoneReady s g → {b : ℕ} → Misplaced s g b → IsLoop s g (loop s g)
-loop-closed p still m = loop-both p still m .0
+loop-closed {s} {g} p still m =
+    let r = loop-returns p still m in
+    subst (IsLoop s g) (sym (r .part)) (walk-loop (from-some (r .again) (r .visited) (r .met)) (way-cut (r .again) (r .visited) (r .met) (r .way) .1))
 
 -- no block is visited twice
 pub loop-short : {s g : State} → Problem s g → NoneReady s g → {b : ℕ} → Misplaced s g b → length (loop s g) ≤ length s
-loop-short p still m = loop-both p still m .1
+loop-short p still m = let r = loop-returns p still m in omega (arith, ap length (r .part), from-length (r .again) (r .visited), r .short)
 
 -- ---- from its lowest number onward
 
@@ -236,6 +262,13 @@ lowest-member {s} {g} {l} p c =
 -- the lowest of the loop is on it
 pub lowest-of-loop : {s g : State} {l : List ℕ} → Problem s g → IsLoop s g l → (i : ℕ) × (i < length l) × (lowestOf s l ≡ getD l i 0)
 lowest-of-loop {s} {g} {l} p c = from-true (member-reflects (lowestOf s l) l) (lowest-member p c)
+
+pub lowest-on : {s g : State} {l : List ℕ} → Problem s g → IsLoop s g l → Lowest (On l) (length s) (lowestOf s l)
+unfolding lowestOf
+lowest-on {s} {g} {l} p c =
+    let w = lowest-of-loop p c in
+    let k = misplaced-block (p .same) (c .waiting (w .0) (w .1) .0) in
+    lowest-found (On l) (λ b. memberᵇ b l) (length s) (λ b _ _. member-reflects b l) (λ z. absurd (omega (arith, z, w .2, k .low)))
 
 pub onward-length : (s : State) (l : List ℕ) → length (onward s l) ≡ length l
 unfolding onward

@@ -1,16 +1,16 @@
 -- How a move changes the count of misplaced blocks (step 3): the status of its own block alone can change. Assumes nothing.
-use mathlib.Core.Path.{_≡_, sym, ap, _∙_, subst}
+use mathlib.Core.Path.{_≡_, refl, sym, ap, _∙_, subst}
 use mathlib.Core.Logic.{_⊎_, inl, inr, _≢_}
-use Prim.Native.Nat.{ℕ, suc, _≤_}
+use Prim.Native.Nat.{ℕ, zero, suc, _≤_}
 use native.Mathlib.Omega.{arith}
 use lib.ListN.{length}
 use Rattle.blocks.specs.State.{State, put}
-use Rattle.lists.specs.Search.{count}
+use Rattle.lists.specs.Search.{lowest, count}
 use Rattle.blocks.specs.Position.{Proper, Problem, InPosition, Misplaced}
 use Rattle.blocks.specs.Move.{Legal, Constructive}
 use Rattle.blocks.specs.Tests.{misplacedᵇ, misplacedCount}
-use Rattle.lists.proofs.ReflectLaws.{from-false, to-true, to-false, not-not, decided, reflects-same, eqb-reflects}
-use Rattle.lists.proofs.SearchLaws.{count-ext, count-none, count-zero, count-one-more}
+use Rattle.lists.proofs.ReflectLaws.{from-true, from-false, to-true, to-false, not-not, decided, reflects-same, eqb-reflects}
+use Rattle.lists.proofs.SearchLaws.{lowest-passes, lowest-none, count-ext, count-none, count-zero, count-one-more}
 use Rattle.blocks.proofs.StateLaws.{length-put}
 use Rattle.blocks.proofs.FrameLaws.{support-moved, position-frame, position-unframe, proper-moved}
 use Rattle.blocks.proofs.PositionLaws.{position-test, misplaced-test, position-goal, position-beneath, misplaced-block, all-positions}
@@ -26,6 +26,21 @@ none-misplaced {s} {g} p e b =
     not-not (position-test s g (p .initial) b) (λ m.
     let w = misplaced-block (p .same) m in
     from-false (misplaced-test s g (p .initial) b) (count-zero (misplacedᵇ s g) (length s) e b (w .low) (w .high)) m)
+
+pub misplaced-none : {s g : State} → Problem s g → ((b : ℕ) → ¬ Misplaced s g b) → misplacedCount s g ≡ 0
+unfolding misplacedCount
+misplaced-none {s} {g} p h = count-none (misplacedᵇ s g) (length s) (λ b _ _. to-false (misplaced-test s g (p .initial) b) (h b))
+
+-- something is misplaced where the count says so
+pub some-misplaced : {s g : State} → Problem s g → misplacedCount s g ≢ 0 → (b : ℕ) × Misplaced s g b
+unfolding misplacedCount
+some-misplaced {s} {g} p n = by (lowest (misplacedᵇ s g) (length s)) refl
+  where
+    by : (b : ℕ) → lowest (misplacedᵇ s g) (length s) ≡ b → (c : ℕ) × Misplaced s g c
+    by zero e = absurd (n (count-none (misplacedᵇ s g) (length s) (lowest-none (misplacedᵇ s g) (length s) e)))
+    by (suc i) e =
+        let found : lowest (misplacedᵇ s g) (length s) ≢ 0 = λ z. absurd (omega (arith, e, z)) in
+        (suc i, from-true (misplaced-test s g (p .initial) (suc i)) (ap (misplacedᵇ s g) (sym e) ∙ lowest-passes (misplacedᵇ s g) (length s) found))
 
 pub none-misplaced-is-goal : {s g : State} → Problem s g → misplacedCount s g ≡ 0 → s ≡ g
 none-misplaced-is-goal {s} {g} p e = all-positions s g (p .same) (none-misplaced p e)

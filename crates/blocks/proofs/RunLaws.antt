@@ -1,12 +1,13 @@
 -- Repeated steps: a run is the plan that steps give one after the other until there is none. What each step keeps or takes, the run keeps or takes.
 -- Assumes nothing.
-use mathlib.Core.Path.{_≡_, refl, ap}
+use mathlib.Core.Path.{_≡_, refl, sym, ap, _∙_, subst}
 use mathlib.Core.List.{[], _∷_, _++_}
 use Prim.Native.Nat.{ℕ, zero, suc, _+_, _≤_}
 use native.Mathlib.Omega.{arith}
 use lib.ListN.{length}
 use Rattle.blocks.specs.State.{State, put}
 use Rattle.blocks.specs.Move.{_⟶_, Plan, Legal, LegalPlan, Careful, CarefulPlan, after}
+use Rattle.blocks.specs.Steps.{Steps, ends}
 use Rattle.blocks.specs.Method.{Step, stop, go, plan, precede, follow, iterate}
 
 -- what is known of a step: of a move Go holds, of the end Stop, and it is never at a loss
@@ -55,6 +56,29 @@ module _ {Inv : State → Type 0} {Go : State → ℕ → ℕ → Type 0} {Stop 
       → Run Inv Go Stop s p → P (after s p) → P s
   run-back P was (done i e) h = h
   run-back P was (more {s = s} {a = a} {x = x} i m r) h = was s a x i m (run-back P was r h)
+
+-- a run is made of steps
+pub run-told : {Inv : State → Type 0} {Go : State → ℕ → ℕ → Type 0} {Stop : State → Type 0} {s : State} {p : Plan} → Run Inv Go Stop s p → Steps Go Stop s p
+run-told (done i e) = ends e
+run-told (more i m r) = Steps.goes m (run-told r)
+
+-- where the words for a step leave no choice, and none is left at the end, there is one plan
+module _ (Inv : State → Type 0) (Go : State → ℕ → ℕ → Type 0) (Stop : State → Type 0)
+    (keeps : (s : State) (a x : ℕ) → Inv s → Go s a x → Inv (put s a x)) where
+  pub steps-kept : {s : State} {p : Plan} → Inv s → Steps Go Stop s p → Inv (after s p)
+  steps-kept i (ends e) = i
+  steps-kept i (Steps.goes {s = s} {a = a} {x = x} m r) = steps-kept (keeps s a x i m) r
+
+  pub steps-only : ((s : State) (a b x y : ℕ) → Inv s → Go s a x → Go s b y → (a ≡ b) × (x ≡ y)) → ((s : State) (a x : ℕ) → Inv s → Stop s → Go s a x → ⊥)
+      → {s : State} {p q : Plan} → Inv s → Steps Go Stop s p → Steps Go Stop s q → p ≡ q
+  steps-only one over i (ends e) (ends h) = refl
+  steps-only one over i (ends e) (Steps.goes {s = s} {a = a} {x = x} m r) = absurd (over s a x i e m)
+  steps-only one over i (Steps.goes {s = s} {a = a} {x = x} m r) (ends e) = absurd (over s a x i e m)
+  steps-only one over i (Steps.goes {s = s} {a = a} {x = x} {p = p} m r) (Steps.goes {a = b} {x = y} {p = q} n t) =
+      let same = one s a b x y i m n in
+      let move : (a ⟶ x) ≡ (b ⟶ y) = ap (λ c. c ⟶ x) (same .0) ∙ ap (λ z. b ⟶ z) (same .1) in
+      let there : put s b y ≡ put s a x = ap (λ c. put s c y) (sym (same .0)) ∙ ap (λ z. put s a z) (sym (same .1)) in
+      ap (λ c. c ∷ p) move ∙ ap (λ l. (b ⟶ y) ∷ l) (steps-only one over (keeps s a x i m) r (subst (λ u. Steps Go Stop u q) there t))
 
 -- where every move takes from a measure, fuel for the measure is enough, and the steps make a run
 module _ (step : State → Step) (Inv : State → Type 0) (Go : State → ℕ → ℕ → Type 0) (Stop : State → Type 0) (μ : State → ℕ)

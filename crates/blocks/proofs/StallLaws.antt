@@ -3,17 +3,18 @@
 use mathlib.Core.Path.{_≡_, refl, sym, ap, _∙_, subst}
 use mathlib.Core.Logic.{_≢_}
 use mathlib.Core.Bool.{Bool, cond}
-use Prim.Native.Nat.{ℕ, zero, suc, _+_, _≤_}
+use Prim.Native.Nat.{ℕ, zero, suc, _+_, _≤_, _<_}
 use native.Mathlib.Omega.{arith}
 use lib.ListN.{length}
 use Rattle.blocks.specs.State.{State, support, down, Above, Clear}
-use Rattle.blocks.specs.Position.{Problem, InPosition, Misplaced}
+use Rattle.blocks.specs.Position.{Proper, Problem, InPosition, Misplaced}
 use Rattle.blocks.specs.Tests.{load}
 use Rattle.blocks.specs.Loop.{lastMisplaced, blocker, top, successor}
 use Rattle.blocks.specs.Stall.{NoneReady, Waiting}
+use Rattle.blocks.specs.Steps.{Foot, ClearAbove, Successor, free, covered}
 use Rattle.lists.proofs.ReflectLaws.{Reflects, holds, fails}
 use Rattle.blocks.proofs.StateLaws.{down-suc, down-table}
-use Rattle.blocks.proofs.TowerLaws.{Reaches}
+use Rattle.blocks.proofs.TowerLaws.{Reaches, clear-unique}
 use Rattle.blocks.proofs.GroundLaws.{ground-bound}
 use Rattle.blocks.proofs.ClearLaws.{load-rests, load-block, load-none, clear-test, clear-table}
 use Rattle.blocks.proofs.PositionLaws.{position-table, position-beneath, misplaced-block, position-test, ready-constructive}
@@ -60,28 +61,42 @@ module _ {s g : State} (p : Problem s g) where
       let t = top-clear b (misplaced-nonzero m) (misplaced-block (p .same) m .high) in
       (λ i. m (subst (InPosition s g) (t .1 .1) (position-beneath i (t .1 .0))), t .0)
 
-  -- d is the foot of b
-  abbrev Foot : ℕ → ℕ → Type 0
-  Foot b d = Misplaced s g d × InPosition s g (support g d) × Reaches g b d
+  -- d is misplaced, and beneath b in the goal with every block between them
+  abbrev LastOf : ℕ → ℕ → Type 0
+  LastOf b d = Misplaced s g d × Foot s g b (support g d) d
 
-  descend : (k b : ℕ) → Misplaced s g b → down g k b ≡ 0 → Foot b (lastMisplaced s g k b)
+  descend : (k b : ℕ) → Misplaced s g b → down g k b ≡ 0 → LastOf b (lastMisplaced s g k b)
   unfolding lastMisplaced
   descend zero b m e = absurd (misplaced-nonzero m e)
   descend (suc k) b m e = go (position-test s g (p .initial) (support g b)) (λ n. descend k (support g b) n e)
     where
       go : {t : Bool} → Reflects (InPosition s g (support g b)) t →
-          (Misplaced s g (support g b) → Foot (support g b) (lastMisplaced s g k (support g b))) →
-          Foot b (cond t b (lastMisplaced s g k (support g b)))
-      go (holds i) rest = (m, i, (0, refl))
-      go (fails n) rest = let f = rest n in (f .0, f .1, (suc (f .2 .0), f .2 .1))
+          (Misplaced s g (support g b) → LastOf (support g b) (lastMisplaced s g k (support g b))) →
+          LastOf b (cond t b (lastMisplaced s g k (support g b)))
+      go (holds i) rest = (m, record { steps = 0; last = refl; rests = refl; position = i; first = λ j l h. absurd (omega arith) })
+      go (fails n) rest =
+          let f = rest n in
+          let foot = f .1 in
+          let between : (j : ℕ) → 1 ≤ j → j ≤ suc (foot .steps) → Misplaced s g (down g j b) = under (foot .steps) n (foot .first) in
+          (f .0, record { steps = suc (foot .steps); last = foot .last; rests = refl; position = foot .position; first = between })
+        where
+          under : (k : ℕ) → Misplaced s g (support g b) → ((j : ℕ) → 1 ≤ j → j ≤ k → Misplaced s g (down g j (support g b)))
+              → (j : ℕ) → 1 ≤ j → j ≤ suc k → Misplaced s g (down g j b)
+          under k n below zero l h = absurd (omega arith)
+          under k n below (suc zero) l h = n
+          under k n below (suc (suc j)) l h = below (suc j) (omega arith) (omega arith)
 
-  -- d of document 01: misplaced, in the goal at or beneath b, its goal support in position
+  -- d of document 01
+  pub last-foot : (b : ℕ) → Misplaced s g b → LastOf b (lastMisplaced s g (length s) b)
+  last-foot b m =
+      let l : b ≤ length g = omega (arith, p .same, misplaced-block (p .same) m .high) in
+      descend (length s) b m (rw (p .same) at (ground-bound g (p .goal .entries) b l (p .goal .grounded b)))
+
+  -- misplaced, in the goal at or beneath b, its goal support in position
   pub last-misplaced : (b : ℕ) → Misplaced s g b →
       Misplaced s g (lastMisplaced s g (length s) b) × InPosition s g (support g (lastMisplaced s g (length s) b)) ×
       Reaches g b (lastMisplaced s g (length s) b)
-  last-misplaced b m =
-      let l : b ≤ length g = omega (arith, p .same, misplaced-block (p .same) m .high) in
-      descend (length s) b m (rw (p .same) at (ground-bound g (p .goal .entries) b l (p .goal .grounded b)))
+  last-misplaced b m = let f = last-foot b m in (f .0, f .1 .position, (f .1 .steps, f .1 .last))
 
   -- x is in the way of b: the top of its tower waits above it, and b is above it in the goal
   abbrev Blocks : ℕ → ℕ → Type 0
@@ -110,15 +125,55 @@ module _ {s g : State} (p : Problem s g) where
           let there : support g y ≡ support g d = sym (i .agrees (u .steps)) ∙ now in
           subst (InPosition s g) (p .goal .carries y d there (λ z. u .block (sym there ∙ z))) (position-beneath i (u .steps))
 
-  -- the successor is misplaced and clear, above the blocker now, and b is above the blocker in the goal
-  pub successor-waits : NoneReady s g → (b : ℕ) → Waiting s g b →
-      Waiting s g (successor s g b) × Above s (successor s g b) (blocker s g b) × Above g b (blocker s g b)
-  unfolding successor blocker
-  successor-waits still b w = go (clear-test s (support g d)) (last-misplaced b (w .0))
+  -- the blocker of b is in its way: d where c is clear, else c
+  blocker-blocks : NoneReady s g → (b : ℕ) → Waiting s g b → Blocks b (blocker s g b) × Successor s g b (top s (length s) (blocker s g b))
+  unfolding blocker
+  blocker-blocks still b w = go (clear-test s (support g d)) (last-foot b (w .0))
     where
       d : ℕ
       d = lastMisplaced s g (length s) b
 
-      go : {t : Bool} → Reflects (Clear s (support g d)) t → Foot b d → Blocks b (cond t d (support g d))
-      go (holds c) f = misplaced-blocks b d (w .1) (f .0) (λ v. still d (ready-constructive p (f .0, v) c (f .1))) (f .2)
-      go (fails n) f = support-blocks b d (f .0) n (f .2)
+      go : {t : Bool} → Reflects (Clear s (support g d)) t → LastOf b d → Blocks b (cond t d (support g d)) × Successor s g b (top s (length s) (cond t d (support g d)))
+      go (holds c) f =
+          let k = misplaced-blocks b d (w .1) (f .0) (λ v. still d (ready-constructive p (f .0, v) c (f .1 .position))) (f .1 .steps, f .1 .last) in
+          (k, free (support g d) d (f .1) c (record { clear = k .0 .1; above = k .1 }))
+      go (fails n) f =
+          let k = support-blocks b d (f .0) n (f .1 .steps, f .1 .last) in
+          (k, covered (support g d) d (f .1) n (record { clear = k .0 .1; above = k .1 }))
+
+  -- the successor is misplaced and clear, above the blocker now, and b is above the blocker in the goal
+  pub successor-waits : NoneReady s g → (b : ℕ) → Waiting s g b →
+      Waiting s g (successor s g b) × Above s (successor s g b) (blocker s g b) × Above g b (blocker s g b)
+  unfolding successor
+  successor-waits still b w = blocker-blocks still b w .0
+
+  -- it is the successor of document 01's words
+  pub successor-told : NoneReady s g → (b : ℕ) → Waiting s g b → Successor s g b (successor s g b)
+  unfolding successor
+  successor-told still b w = blocker-blocks still b w .1
+
+-- ---- the words leave no choice
+
+-- c and d are met after the same steps
+foot-steps : {s g : State} {b c d c′ d′ : ℕ} (f : Foot s g b c d) (h : Foot s g b c′ d′) → f .steps < h .steps → ⊥
+foot-steps {s} {g} {b} f h l =
+    let at : down g (suc (f .steps)) b ≡ _ = down-suc g (f .steps) b ∙ ap (support g) (f .last) ∙ f .rests in
+    h .first (suc (f .steps)) (omega arith) (omega (arith, l)) (subst (InPosition s g) (sym at) (f .position))
+
+foot-only : {s g : State} {b c d c′ d′ : ℕ} → Foot s g b c d → Foot s g b c′ d′ → (c ≡ c′) × (d ≡ d′)
+foot-only {s} {g} {b} f h =
+    let sooner : ¬ (f .steps < h .steps) = foot-steps f h in
+    let later : ¬ (h .steps < f .steps) = foot-steps h f in
+    let same : f .steps ≡ h .steps = omega (arith, sooner, later) in
+    let ds = sym (f .last) ∙ ap (λ k. down g k b) same ∙ h .last in
+    (sym (f .rests) ∙ ap (support g) ds ∙ h .rests, ds)
+
+above-only : {s : State} → Proper s → {x x′ y z : ℕ} → x ≡ x′ → ClearAbove s x y → ClearAbove s x′ z → y ≡ z
+above-only p {x} {x′} {y} {z} e a b =
+    clear-unique p y z x (suc (a .above .steps)) (suc (b .above .steps)) (a .clear) (b .clear) (a .above .reaches) (b .above .reaches ∙ sym e) (a .above .block)
+
+pub successor-only : {s g : State} → Proper s → {b y z : ℕ} → Successor s g b y → Successor s g b z → y ≡ z
+successor-only p (free c d f w a) (free c′ d′ f′ w′ a′) = above-only p (foot-only f f′ .1) a a′
+successor-only {s} p (free c d f w a) (covered c′ d′ f′ n a′) = absurd (n (subst (Clear s) (foot-only f f′ .0) w))
+successor-only {s} p (covered c d f n a) (free c′ d′ f′ w a′) = absurd (n (subst (Clear s) (sym (foot-only f f′ .0)) w))
+successor-only p (covered c d f n a) (covered c′ d′ f′ n′ a′) = above-only p (foot-only f f′ .0) a a′

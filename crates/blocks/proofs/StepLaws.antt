@@ -5,36 +5,47 @@ use mathlib.Core.Bool.{Bool, cond}
 use Prim.Native.Nat.{ℕ, zero, suc, _≤_}
 use native.Mathlib.Omega.{arith}
 use lib.ListN.{length}
+use Rattle.lists.specs.Search.{Lowest}
 use Rattle.blocks.specs.State.{State, support, put}
 use Rattle.blocks.specs.Position.{Problem, InPosition, Misplaced}
 use Rattle.blocks.specs.Move.{Legal, Constructive, Careful}
 use Rattle.blocks.specs.Tests.{readyᵇ, perchedᵇ, misplacedCount, measure}
 use Rattle.blocks.specs.Method.{stop, noBlock, toTable, toGoal, lowestPerched, lowestReady, clearing, building, solving}
-use Rattle.blocks.specs.Stall.{NoneReady, Perched, Moves}
+use Rattle.blocks.specs.Stall.{Ready, NoneReady, Perched, Moves}
+use Rattle.blocks.specs.Steps.{Builds, Clears, Stalled, NoneMisplaced, Solving, builds, clears}
 use Rattle.lists.proofs.ReflectLaws.{Reflects, holds, fails, from-true, from-false, eqb-reflects}
-use Rattle.lists.proofs.SearchLaws.{lowest-passes, lowest-none}
+use Rattle.lists.proofs.SearchLaws.{lowest-none, lowest-found}
 use Rattle.blocks.proofs.ClearLaws.{clear-table}
 use Rattle.blocks.proofs.PositionLaws.{perched-test, ready-test, position-table, misplaced-block}
+use Rattle.blocks.proofs.MisplacedLaws.{none-misplaced, some-misplaced}
 use Rattle.blocks.proofs.MeasureLaws.{measure-constructive, measure-table}
 use Rattle.blocks.proofs.RunLaws.{Stepping, goes, stops}
 
 -- ---- the lowest ready and the lowest perched block
 
 module _ {s g : State} (p : Problem s g) where
-  pub ready-found : (i : ℕ) → lowestReady s g ≡ suc i → Constructive s g (suc i) (support g (suc i))
+  pub ready-lowest : (i : ℕ) → lowestReady s g ≡ suc i → Lowest (Ready s g) (length s) (suc i)
   unfolding lowestReady
-  ready-found i e =
-      from-true (ready-test s g p (suc i)) (ap (readyᵇ s g) (sym e) ∙ lowest-passes (readyᵇ s g) (length s) (λ z. absurd (omega (arith, z, e))))
+  ready-lowest i e =
+      subst (Lowest (Ready s g) (length s)) e
+      (lowest-found (Ready s g) (readyᵇ s g) (length s) (λ b _ _. ready-test s g p b) (λ z. absurd (omega (arith, z, e))))
+
+  pub ready-found : (i : ℕ) → lowestReady s g ≡ suc i → Constructive s g (suc i) (support g (suc i))
+  ready-found i e = ready-lowest i e .holds
 
   pub ready-none : lowestReady s g ≡ 0 → NoneReady s g
   unfolding lowestReady
   ready-none e b c =
       from-false (ready-test s g p b) (lowest-none (readyᵇ s g) (length s) e b (c .legal .block .low) (c .legal .block .high)) c
 
-  pub perched-found : (i : ℕ) → lowestPerched s g ≡ suc i → Perched s g (suc i)
+  pub perched-lowest : (i : ℕ) → lowestPerched s g ≡ suc i → Lowest (Perched s g) (length s) (suc i)
   unfolding lowestPerched
-  perched-found i e =
-      from-true (perched-test s g (p .initial) (suc i)) (ap (perchedᵇ s g) (sym e) ∙ lowest-passes (perchedᵇ s g) (length s) (λ z. absurd (omega (arith, z, e))))
+  perched-lowest i e =
+      subst (Lowest (Perched s g) (length s)) e
+      (lowest-found (Perched s g) (perchedᵇ s g) (length s) (λ b _ _. perched-test s g (p .initial) b) (λ z. absurd (omega (arith, z, e))))
+
+  pub perched-found : (i : ℕ) → lowestPerched s g ≡ suc i → Perched s g (suc i)
+  perched-found i e = perched-lowest i e .holds
 
   pub perched-none : lowestPerched s g ≡ 0 → (b : ℕ) → ¬ Perched s g b
   unfolding lowestPerched
@@ -87,53 +98,65 @@ module _ {s g : State} {a x : ℕ} (p : Problem s g) where
 -- ---- steps
 
 -- the first loop of US puts perched blocks down until there is none
-pub record PutsDown (s g : State) (a x : ℕ) : Type 0 where
-  pub perched : Perched s g a
-  pub table : x ≡ 0
-
-pub clearing-steps : {s g : State} → Problem s g → Stepping (PutsDown s g) ((b : ℕ) → ¬ Perched s g b) (clearing g s)
+pub clearing-steps : {s g : State} → Problem s g → Stepping (Clears g s) ((b : ℕ) → ¬ Perched s g b) (clearing g s)
 unfolding clearing
 clearing-steps {s} {g} p = by (lowestPerched s g) refl
   where
-    by : (b : ℕ) → lowestPerched s g ≡ b → Stepping (PutsDown s g) ((c : ℕ) → ¬ Perched s g c) (toTable b stop)
+    by : (b : ℕ) → lowestPerched s g ≡ b → Stepping (Clears g s) ((c : ℕ) → ¬ Perched s g c) (toTable b stop)
     by zero e = stops (perched-none p e)
-    by (suc i) e = goes (record { perched = perched-found p i e; table = refl })
+    by (suc i) e = goes (record { lowest = perched-lowest p i e; table = refl })
 
 -- constructive moves alone go on until no block has one
-pub building-steps : {s g : State} → Problem s g → Stepping (Constructive s g) (NoneReady s g) (building g s)
+pub building-steps : {s g : State} → Problem s g → Stepping (Builds g s) (NoneReady s g) (building g s)
 unfolding building
 building-steps {s} {g} p = by (lowestReady s g) refl
   where
-    by : (b : ℕ) → lowestReady s g ≡ b → Stepping (Constructive s g) (NoneReady s g) (toGoal g b stop)
+    by : (b : ℕ) → lowestReady s g ≡ b → Stepping (Builds g s) (NoneReady s g) (toGoal g b stop)
     by zero e = stops (ready-none p e)
-    by (suc i) e = goes (ready-found p i e)
+    by (suc i) e = goes (record { lowest = ready-lowest p i e; home = refl })
 
--- methods 2 and 3: a block is put down only in a stalled state with something misplaced
-pub data Solving (s g : State) (a x : ℕ) : Type 0 where
-  builds : Constructive s g a x → Solving s g a x
-  clears : NoneReady s g → misplacedCount s g ≢ 0 → Perched s g a → x ≡ 0 → Solving s g a x
+pub builds-constructive : {g s : State} {a x : ℕ} → Builds g s a x → Constructive s g a x
+builds-constructive {g} {s} {a} w = subst (Constructive s g a) (sym (w .home)) (w .lowest .holds)
 
-pub solving-moves : {s g : State} {a x : ℕ} → Solving s g a x → Moves s g a x
-solving-moves (Solving.builds c) = Moves.builds c
-solving-moves (Solving.clears h n w e) = Moves.clears w e
+pub clears-moves : {g s : State} {a x : ℕ} → Clears g s a x → Moves s g a x
+clears-moves w = Moves.clears (w .lowest .holds) (w .table)
+
+-- methods 2 and 3: a block is put down only in a stalled state. What is asked of the function that chooses it and of the words for it: in a stalled state
+-- it chooses as the words say, a block that is perched, and the words leave no choice
+pub record Chooses (g : State) (putDown : State → State → ℕ) (PutsDown : State → State → ℕ → ℕ → Type 0) : Type 0 where
+  pub picks : (s : State) → Problem s g → Stalled s g → PutsDown g s (putDown s g) 0
+  pub perched : (s : State) (a x : ℕ) → Problem s g → Stalled s g → PutsDown g s a x → Perched s g a × (x ≡ 0)
+  pub only : (s : State) (a b x y : ℕ) → Problem s g → PutsDown g s a x → PutsDown g s b y → a ≡ b
+
+module _ (putDown : State → State → ℕ) (PutsDown : State → State → ℕ → ℕ → Type 0) {g : State} (chooses : Chooses g putDown PutsDown) {s : State} (p : Problem s g) where
+  pub solving-moves : {a x : ℕ} → Solving PutsDown g s a x → Moves s g a x
+  solving-moves (builds w) = Moves.builds (builds-constructive w)
+  solving-moves {a} {x} (clears h w) = let k = chooses .perched s a x p h w in Moves.clears (k .0) (k .1)
+
+  pub solving-steps : Stepping (Solving PutsDown g s) (NoneMisplaced g s) (solving putDown g s)
+  unfolding solving
+  solving-steps = first (eqb-reflects (misplacedCount s g) 0)
+    where
+      third : Stalled s g → (b : ℕ) → putDown s g ≡ b → Stepping (Solving PutsDown g s) (NoneMisplaced g s) (toTable b noBlock)
+      third h zero e = absurd (chooses .perched s 0 0 p h (subst (λ b. PutsDown g s b 0) e (chooses .picks s p h)) .0 .0 .0 (position-table s g))
+      third h (suc i) e = goes (clears h (subst (λ b. PutsDown g s b 0) e (chooses .picks s p h)))
+
+      second : misplacedCount s g ≢ 0 → (b : ℕ) → lowestReady s g ≡ b
+          → Stepping (Solving PutsDown g s) (NoneMisplaced g s) (toGoal g b (toTable (putDown s g) noBlock))
+      second n zero e = let m = some-misplaced p n in third (record { block = m .0; misplaced = m .1; none-ready = ready-none p e }) (putDown s g) refl
+      second n (suc i) e = goes (builds (record { lowest = ready-lowest p i e; home = refl }))
+
+      first : {t : Bool} → Reflects (misplacedCount s g ≡ 0) t
+          → Stepping (Solving PutsDown g s) (NoneMisplaced g s) (cond t stop (toGoal g (lowestReady s g) (toTable (putDown s g) noBlock)))
+      first (holds e) = stops (λ b m. m (none-misplaced p e b))
+      first (fails n) = second n (lowestReady s g) refl
 
 -- what is put down is a perched block, wherever the state is stalled with something misplaced
 abbrev pub Picks : State → (State → State → ℕ) → Type 0
 Picks g putDown = (s : State) → Problem s g → NoneReady s g → misplacedCount s g ≢ 0 → Perched s g (putDown s g)
 
-pub solving-steps : (putDown : State → State → ℕ) {s g : State} → Picks g putDown → Problem s g → Stepping (Solving s g) (misplacedCount s g ≡ 0) (solving putDown g s)
-unfolding solving
-solving-steps putDown {s} {g} picks p = first (eqb-reflects (misplacedCount s g) 0)
-  where
-    third : misplacedCount s g ≢ 0 → NoneReady s g → (b : ℕ) → putDown s g ≡ b → Stepping (Solving s g) (misplacedCount s g ≡ 0) (toTable b noBlock)
-    third n h zero e = absurd (picks s p h n .0 .0 (rw e (position-table s g)))
-    third n h (suc i) e = goes (Solving.clears h n (subst (Perched s g) e (picks s p h n)) refl)
-
-    second : misplacedCount s g ≢ 0 → (b : ℕ) → lowestReady s g ≡ b → Stepping (Solving s g) (misplacedCount s g ≡ 0) (toGoal g b (toTable (putDown s g) noBlock))
-    second n zero e = third n (ready-none p e) (putDown s g) refl
-    second n (suc i) e = goes (Solving.builds (ready-found p i e))
-
-    first : {t : Bool} → Reflects (misplacedCount s g ≡ 0) t
-        → Stepping (Solving s g) (misplacedCount s g ≡ 0) (cond t stop (toGoal g (lowestReady s g) (toTable (putDown s g) noBlock)))
-    first (holds e) = stops e
-    first (fails n) = second n (lowestReady s g) refl
+pub chooses-picks : {g : State} {putDown : State → State → ℕ} {PutsDown : State → State → ℕ → ℕ → Type 0} → Chooses g putDown PutsDown → Picks g putDown
+chooses-picks {g} {putDown} c s p h n =
+    let m = some-misplaced p n in
+    let k : Stalled s g = record { block = m .0; misplaced = m .1; none-ready = h } in
+    c .perched s (putDown s g) 0 p k (c .picks s p k) .0

@@ -23,7 +23,8 @@ use Rattle.blocks.proofs.MovedLaws as moved
 use Rattle.blocks.proofs.MeasureLaws.{measure-le, misplaced-le}
 use Rattle.blocks.proofs.StallLaws as stalls
 use Rattle.blocks.proofs.LoopLaws as loops
-use Rattle.blocks.proofs.MethodLaws.{Written, method-written}
+use Rattle.blocks.proofs.LoopToldLaws as told
+use Rattle.blocks.proofs.MethodLaws.{Written, method-written, method-only, method-told}
 use Rattle.blocks.proofs.DeadlockTestLaws as deadlocks
 use Rattle.blocks.proofs.FlatLaws as flats
 use Rattle.blocks.proofs.DecidedLaws as rows
@@ -111,6 +112,10 @@ theorems =
       misplaced-counts = misplaced-counts;
       pairs-back = flats.pairs-back;
       pairs-forth = flats.pairs-forth;
+      methods = method-told;
+      methods-only = λ m s g p q r. method-only m p;
+      loop-told = λ s g p h. told.loop-told p (h .none-ready) (h .misplaced);
+      written-told = answers.written-told;
       replay-verdict = replays.replay-verdict;
       replay-arrives = replays.replay-arrives;
       replay-says = answers.replay-says;

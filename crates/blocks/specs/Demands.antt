@@ -14,6 +14,7 @@ use Rattle.blocks.specs.Tests.{clearᵇ, groundedᵇ, inPositionᵇ, wai
 use Rattle.blocks.specs.Deadlock.{next, Deadlock, Deadlocked}
 use Rattle.blocks.specs.Loop.{lastMisplaced, blocker, successor, loop}
 use Rattle.blocks.specs.Stall.{Waiting, Perched, Ready, NoneReady, IsLoop}
+use Rattle.blocks.specs.Steps.{Stalled, LoopOf, By}
 use Rattle.blocks.specs.Method.{Method, Us, plan, outcome, numberOf, deadlockLoop, deadlockPairs}
 use Rattle.blocks.specs.Question.{allYes, no′, firstNo, numbers, IsMethod, problemQuestions, planQuestions, deadlockQuestions, replayQuestions}
 use Rattle.blocks.specs.Question.{Refused, PlanRefused, DeadlockRefused, ReplayRefused}
@@ -108,6 +109,14 @@ pub record Theorems : Type 0 where
   pub misplaced-counts : (s g : State) → Proper s → Counts (Misplaced s g) (length s) (misplacedCount s g)
   pub pairs-back : (p : Plan) → moves (flat p) ≡ p
   pub pairs-forth : (l : List ℕ) → length l % 2 ≡ 0 → flat (moves l) ≡ l
+  -- ---- demand 2: the lists of the methods
+  -- a method gives a plan exactly where its words give it, and they give one; so with the loop of a stalled state
+  pub methods : (m : Method) (s g : State) → Problem s g → (p : Plan) → (outcome m s g ≡ plan p) ↔ By m s g p
+  pub methods-only : (m : Method) (s g : State) → Problem s g → (p q : Plan) → By m s g p → By m s g q → p ≡ q
+  pub loop-told : (s g : State) → Problem s g → Stalled s g → (l : List ℕ) → (loop s g ≡ l) ↔ LoopOf s g l
+  -- the list written into the lent space is that plan
+  pub written-told : (m : Method) (s g : State) (space : List ℕ) → Accepted s g → 4 * length s ≤ length space
+      → By m s g (moves (take (2 * (planAnswer (numberOf m) s g space) .count) (planSpace (numberOf m) s g space)))
   -- ---- demand 2: replay and the deadlock test
   -- each verdict and place exactly where its sentence holds; verdict 0 exactly when the plan is legal and ends in the goal
   pub replay-verdict : (s g : State) → length g ≡ length s → (p : Plan) (v k : ℕ)

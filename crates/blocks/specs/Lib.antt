@@ -6,6 +6,7 @@ pub mod Deadlock
 pub mod Loop
 pub mod Stall
 pub mod Method
+pub mod Steps
 pub mod Question
 pub mod Replay
 pub mod Answer

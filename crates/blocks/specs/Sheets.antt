@@ -1,22 +1,28 @@
--- The starred sheets of document 01, "Sheets with known ends", as one table of what the operations must answer, and a second table of sheets that settle
--- the ties. proofs/Starred proves both whole. Assumes nothing.
-use Prim.Native.Nat.{ℕ, _*_, _-_}
+-- The starred sheets of document 01, "Sheets with known ends", as one table of what the operations must answer, and further tables that settle ties, counts,
+-- verdicts and refusals. proofs/Starred proves them whole. Assumes nothing.
+use Prim.Native.Nat.{ℕ, _+_, _*_, _-_}
 use mathlib.Core.Path.{_≡_}
 use mathlib.Core.List.{List, [], _∷_, _++_}
-use lib.ListN.{length, take, replicate}
+use lib.ListN.{length, replicate}
 use Rattle.blocks.specs.State.{State}
-use Rattle.blocks.specs.Tests.{changed, misplacedCount}
-use Rattle.blocks.specs.Answer.{checkAnswer, planAnswer, planSpace, deadlockAnswer, deadlockSpace}
+use Rattle.blocks.specs.Position.{Problem, Accepted}
+use Rattle.blocks.specs.Tests.{misplacedCount}
+use Rattle.blocks.specs.Method.{Method, numberOf}
+use Rattle.blocks.specs.Answer.{checkAnswer, planAnswer, planSpace, deadlockAnswer, deadlockSpace, replayAnswer}
 
--- One claim of the table. A method goes by its number, and lists of lifts are written as the operations write them: slab, destination.
+-- One claim of a table. A method goes by its number, and lists of lifts are written as the operations write them: slab, destination.
 pub data Claim : Type 0 where
   gives : State → State → ℕ → List ℕ → Claim  -- the method writes this list
-  begins : State → State → ℕ → List ℕ → Claim  -- the method's list begins so
   takes : State → State → ℕ → ℕ → Claim  -- the method writes so many lifts
   shows : State → State → List ℕ → Claim  -- the deadlock test writes these pairs; none, where there is no deadlock
   changes : State → State → ℕ → Claim  -- so many entries differ
   misplaces : State → State → ℕ → Claim  -- so many slabs are misplaced
+  replays : State → State → List ℕ → ℕ → ℕ → Claim  -- the list has this verdict and place
   refuses : State → ℕ → ℕ → Claim  -- with goals all 0 and as long: number and place
+  refusesBoth : State → State → ℕ → ℕ → Claim  -- number and place of a check of both lists
+  refusesPlan : State → State → ℕ → ℕ → ℕ → Claim  -- by the method, with so many numbers lent: number, place 0
+  refusesDeadlock : State → State → ℕ → ℕ → Claim  -- with so many numbers lent: number, place 0
+  refusesReplay : State → State → List ℕ → ℕ → Claim  -- of the list: number, place 0
 
 -- Lent space full of a number that no slab has.
 abbrev pub lent : ℕ → List ℕ
@@ -31,15 +37,20 @@ Holds (gives s g m l) =
     (planSpace m s g (lent (4 * length s)) ≡ onTop l (4 * length s))
     × (2 * (planAnswer m s g (lent (4 * length s))) .count ≡ length l)
     × ((planAnswer m s g (lent (4 * length s))) .number ≡ 0)
-Holds (begins s g m l) = take (length l) (planSpace m s g (lent (4 * length s))) ≡ l
-Holds (takes s g m k) = (planAnswer m s g (lent (4 * length s))) .count ≡ k
+Holds (takes s g m k) = ((planAnswer m s g (lent (4 * length s))) .count ≡ k) × ((planAnswer m s g (lent (4 * length s))) .number ≡ 0)
 Holds (shows s g l) =
     (deadlockSpace s g (lent (2 * length s)) ≡ onTop l (2 * length s))
     × (2 * (deadlockAnswer s g (lent (2 * length s))) .count ≡ length l)
     × ((deadlockAnswer s g (lent (2 * length s))) .number ≡ 0)
-Holds (changes s g c) = (planAnswer 1 s g (lent (4 * length s))) .changed ≡ c
+Holds (changes s g c) = ((planAnswer 1 s g (lent (4 * length s))) .changed ≡ c) × ((planAnswer 1 s g (lent (4 * length s))) .number ≡ 0)
 Holds (misplaces s g c) = misplacedCount s g ≡ c
+Holds (replays s g l v p) = replayAnswer s g l ≡ record { number = 0; verdict = v; place = p }
 Holds (refuses s k p) = checkAnswer s (replicate (length s) 0) ≡ record { number = k; place = p }
+Holds (refusesBoth s g k p) = checkAnswer s g ≡ record { number = k; place = p }
+Holds (refusesPlan s g m n k) =
+    (planAnswer m s g (lent n) ≡ record { number = k; place = 0; count = 0; changed = 0 }) × (planSpace m s g (lent n) ≡ lent n)
+Holds (refusesDeadlock s g n k) = (deadlockAnswer s g (lent n) ≡ record { number = k; place = 0; count = 0 }) × (deadlockSpace s g (lent n) ≡ lent n)
+Holds (refusesReplay s g l k) = ((replayAnswer s g l) .number ≡ k) × ((replayAnswer s g l) .place ≡ 0)
 
 abbrev pub AllHold : List Claim → Type 0
 AllHold [] = Unit {0}
@@ -116,27 +127,46 @@ starred =
     refuses (1 ∷ []) 6 1 ∷
     []
 
--- Sheets that settle ties and counts (docs/DECISIONS.md, 2 and 5).
-abbrev pub trials : List Claim
-trials =
-    -- the walk of the loop starts at a misplaced clear slab on or off the ground; method 3 may write more lifts than method 2
-    begins (0 ∷ 6 ∷ 7 ∷ 8 ∷ 9 ∷ 0 ∷ 0 ∷ 0 ∷ 0 ∷ []) (8 ∷ 7 ∷ 6 ∷ 9 ∷ 1 ∷ 0 ∷ 0 ∷ 0 ∷ 0 ∷ []) 3 (4 ∷ 0 ∷ []) ∷
-    takes (0 ∷ 0 ∷ 2 ∷ 5 ∷ 1 ∷ []) (0 ∷ 0 ∷ 1 ∷ 2 ∷ 4 ∷ []) 3 4 ∷
-    takes (3 ∷ 0 ∷ 4 ∷ 0 ∷ 2 ∷ 1 ∷ []) (2 ∷ 0 ∷ 1 ∷ 0 ∷ 4 ∷ 5 ∷ []) 2 6 ∷
-    takes (3 ∷ 0 ∷ 4 ∷ 0 ∷ 2 ∷ 1 ∷ []) (2 ∷ 0 ∷ 1 ∷ 0 ∷ 4 ∷ 5 ∷ []) 3 7 ∷
-    -- of two constructive lifts the lower slab's comes first, wherever they go
+-- Sheets that settle the ties of each method (docs/DECISIONS.md, 2 and 5), with whole lists.
+abbrev pub ties : List Claim
+ties =
+    -- of two slabs that have a constructive lift the lower comes first, wherever they stand and go
+    gives (0 ∷ 0 ∷ 0 ∷ 0 ∷ []) (0 ∷ 0 ∷ 1 ∷ 2 ∷ []) 1 (3 ∷ 1 ∷ 4 ∷ 2 ∷ []) ∷
+    gives (0 ∷ 0 ∷ 0 ∷ 0 ∷ []) (0 ∷ 0 ∷ 1 ∷ 2 ∷ []) 2 (3 ∷ 1 ∷ 4 ∷ 2 ∷ []) ∷
+    gives (0 ∷ 0 ∷ 0 ∷ 0 ∷ []) (0 ∷ 0 ∷ 1 ∷ 2 ∷ []) 3 (3 ∷ 1 ∷ 4 ∷ 2 ∷ []) ∷
+    gives (0 ∷ 0 ∷ 1 ∷ 0 ∷ 0 ∷ []) (2 ∷ 0 ∷ 4 ∷ 0 ∷ 1 ∷ []) 1 (3 ∷ 0 ∷ 1 ∷ 2 ∷ 3 ∷ 4 ∷ 5 ∷ 1 ∷ []) ∷
     gives (0 ∷ 0 ∷ 1 ∷ 0 ∷ []) (0 ∷ 0 ∷ 0 ∷ 2 ∷ []) 2 (3 ∷ 0 ∷ 4 ∷ 2 ∷ []) ∷
     gives (0 ∷ 0 ∷ 0 ∷ 1 ∷ []) (0 ∷ 0 ∷ 2 ∷ 0 ∷ []) 2 (3 ∷ 2 ∷ 4 ∷ 0 ∷ []) ∷
-    gives (0 ∷ 0 ∷ 0 ∷ 0 ∷ []) (0 ∷ 0 ∷ 1 ∷ 2 ∷ []) 1 (3 ∷ 1 ∷ 4 ∷ 2 ∷ []) ∷
-    -- of two slabs to put down the lower comes first
+    gives (3 ∷ 0 ∷ 0 ∷ 2 ∷ []) (0 ∷ 0 ∷ 1 ∷ 0 ∷ []) 3 (1 ∷ 0 ∷ 3 ∷ 1 ∷ 4 ∷ 0 ∷ []) ∷
+    gives (3 ∷ 0 ∷ 2 ∷ 1 ∷ []) (0 ∷ 4 ∷ 0 ∷ 1 ∷ []) 3 (4 ∷ 0 ∷ 1 ∷ 0 ∷ 3 ∷ 0 ∷ 4 ∷ 1 ∷ 2 ∷ 4 ∷ []) ∷
+    -- of two slabs to put down the lower comes first, wherever they stand
     gives (0 ∷ 0 ∷ 1 ∷ 2 ∷ []) (0 ∷ 0 ∷ 0 ∷ 0 ∷ []) 1 (3 ∷ 0 ∷ 4 ∷ 0 ∷ []) ∷
+    gives (0 ∷ 0 ∷ 2 ∷ 1 ∷ []) (0 ∷ 0 ∷ 0 ∷ 0 ∷ []) 1 (3 ∷ 0 ∷ 4 ∷ 0 ∷ []) ∷
+    gives (2 ∷ 0 ∷ 4 ∷ 0 ∷ []) (4 ∷ 0 ∷ 2 ∷ 0 ∷ []) 1 (1 ∷ 0 ∷ 3 ∷ 0 ∷ 1 ∷ 4 ∷ 3 ∷ 2 ∷ []) ∷
+    gives (2 ∷ 3 ∷ 0 ∷ 5 ∷ 0 ∷ []) (5 ∷ 0 ∷ 0 ∷ 3 ∷ 2 ∷ []) 1 (1 ∷ 0 ∷ 2 ∷ 0 ∷ 4 ∷ 0 ∷ 4 ∷ 3 ∷ 5 ∷ 2 ∷ 1 ∷ 5 ∷ []) ∷
     gives (3 ∷ 0 ∷ 0 ∷ 5 ∷ 2 ∷ []) (2 ∷ 4 ∷ 0 ∷ 0 ∷ 3 ∷ []) 1 (1 ∷ 0 ∷ 4 ∷ 0 ∷ 5 ∷ 0 ∷ 2 ∷ 4 ∷ 1 ∷ 2 ∷ 5 ∷ 3 ∷ []) ∷
-    -- the lowest slab on the loop is put down, and the loop is that of the lowest misplaced clear slab
+    gives (0 ∷ 0 ∷ 2 ∷ 1 ∷ []) (0 ∷ 0 ∷ 1 ∷ 2 ∷ []) 2 (3 ∷ 0 ∷ 4 ∷ 2 ∷ 3 ∷ 1 ∷ []) ∷
+    gives (3 ∷ 0 ∷ 4 ∷ 0 ∷ 2 ∷ 1 ∷ []) (2 ∷ 0 ∷ 1 ∷ 0 ∷ 4 ∷ 5 ∷ []) 2 (5 ∷ 0 ∷ 6 ∷ 0 ∷ 1 ∷ 2 ∷ 3 ∷ 1 ∷ 5 ∷ 4 ∷ 6 ∷ 5 ∷ []) ∷
+    -- the lowest slab on the loop is put down, and the loop is that of the lowest misplaced clear slab, on or off the ground;
+    -- method 3 may write more lifts than method 2
+    gives (2 ∷ 0 ∷ 4 ∷ 0 ∷ []) (4 ∷ 0 ∷ 2 ∷ 0 ∷ []) 3 (1 ∷ 0 ∷ 3 ∷ 2 ∷ 1 ∷ 4 ∷ []) ∷
+    gives (0 ∷ 0 ∷ 2 ∷ 1 ∷ []) (0 ∷ 0 ∷ 1 ∷ 2 ∷ []) 3 (3 ∷ 0 ∷ 4 ∷ 2 ∷ 3 ∷ 1 ∷ []) ∷
+    gives (3 ∷ 0 ∷ 4 ∷ 0 ∷ 2 ∷ 1 ∷ []) (2 ∷ 0 ∷ 1 ∷ 0 ∷ 4 ∷ 5 ∷ []) 3 (6 ∷ 0 ∷ 1 ∷ 0 ∷ 3 ∷ 0 ∷ 5 ∷ 4 ∷ 1 ∷ 2 ∷ 3 ∷ 1 ∷ 6 ∷ 5 ∷ []) ∷
+    gives (0 ∷ 0 ∷ 2 ∷ 5 ∷ 1 ∷ []) (0 ∷ 0 ∷ 1 ∷ 2 ∷ 4 ∷ []) 3 (3 ∷ 0 ∷ 4 ∷ 2 ∷ 5 ∷ 4 ∷ 3 ∷ 1 ∷ []) ∷
     gives (0 ∷ 0 ∷ 0 ∷ 2 ∷ 1 ∷ []) (0 ∷ 0 ∷ 1 ∷ 3 ∷ 2 ∷ []) 3 (4 ∷ 0 ∷ 5 ∷ 2 ∷ 3 ∷ 1 ∷ 4 ∷ 3 ∷ []) ∷
-    shows (0 ∷ 0 ∷ 0 ∷ 2 ∷ 1 ∷ []) (0 ∷ 0 ∷ 1 ∷ 3 ∷ 2 ∷ []) (4 ∷ 1 ∷ 5 ∷ 2 ∷ []) ∷
     gives (3 ∷ 4 ∷ 5 ∷ 0 ∷ 0 ∷ []) (3 ∷ 5 ∷ 0 ∷ 0 ∷ 4 ∷ []) 3 (1 ∷ 0 ∷ 3 ∷ 0 ∷ 1 ∷ 3 ∷ 2 ∷ 0 ∷ 5 ∷ 4 ∷ 2 ∷ 5 ∷ []) ∷
+    gives (0 ∷ 3 ∷ 5 ∷ 1 ∷ 0 ∷ []) (0 ∷ 3 ∷ 0 ∷ 5 ∷ 1 ∷ []) 3 (2 ∷ 0 ∷ 3 ∷ 0 ∷ 2 ∷ 3 ∷ 4 ∷ 0 ∷ 5 ∷ 1 ∷ 4 ∷ 5 ∷ []) ∷
+    gives (4 ∷ 0 ∷ 2 ∷ 0 ∷ 1 ∷ 3 ∷ []) (0 ∷ 6 ∷ 4 ∷ 2 ∷ 1 ∷ 0 ∷ []) 3 (6 ∷ 0 ∷ 3 ∷ 0 ∷ 2 ∷ 6 ∷ 5 ∷ 0 ∷ 1 ∷ 0 ∷ 4 ∷ 2 ∷ 3 ∷ 4 ∷ 5 ∷ 1 ∷ []) ∷
+    gives (3 ∷ 0 ∷ 2 ∷ 1 ∷ 7 ∷ 0 ∷ 0 ∷ []) (2 ∷ 0 ∷ 0 ∷ 3 ∷ 6 ∷ 7 ∷ 0 ∷ []) 3 (4 ∷ 0 ∷ 1 ∷ 0 ∷ 3 ∷ 0 ∷ 1 ∷ 2 ∷ 4 ∷ 3 ∷ 5 ∷ 0 ∷ 6 ∷ 7 ∷ 5 ∷ 6 ∷ []) ∷
+    gives (0 ∷ 6 ∷ 7 ∷ 8 ∷ 9 ∷ 0 ∷ 0 ∷ 0 ∷ 0 ∷ []) (8 ∷ 7 ∷ 6 ∷ 9 ∷ 1 ∷ 0 ∷ 0 ∷ 0 ∷ 0 ∷ []) 3 (4 ∷ 0 ∷ 1 ∷ 8 ∷ 5 ∷ 1 ∷ 4 ∷ 9 ∷ 2 ∷ 0 ∷ 3 ∷ 6 ∷ 2 ∷ 7 ∷ []) ∷
+    -- and so are the pairs of the deadlock test
+    shows (0 ∷ 0 ∷ 0 ∷ 2 ∷ 1 ∷ []) (0 ∷ 0 ∷ 1 ∷ 3 ∷ 2 ∷ []) (4 ∷ 1 ∷ 5 ∷ 2 ∷ []) ∷
     shows (3 ∷ 4 ∷ 5 ∷ 0 ∷ 0 ∷ []) (3 ∷ 5 ∷ 0 ∷ 0 ∷ 4 ∷ []) (1 ∷ 3 ∷ []) ∷
-    -- changed counts every entry that differs and no other
+    []
+
+-- "changed" counts every entry that differs and no other.
+abbrev pub counts : List Claim
+counts =
     changes S2now S2goal 2 ∷
     changes S3now S3goal 3 ∷
     changes S4now S4goal 2 ∷
@@ -144,3 +174,67 @@ trials =
     changes (3 ∷ 1 ∷ 0 ∷ 5 ∷ 0 ∷ []) (3 ∷ 1 ∷ 4 ∷ 5 ∷ 0 ∷ []) 1 ∷
     changes (0 ∷ 1 ∷ 2 ∷ []) (0 ∷ 1 ∷ 2 ∷ []) 0 ∷
     []
+
+-- Each verdict of replay with its place, on S2 and S4.
+abbrev pub verdicts : List Claim
+verdicts =
+    replays S2now S2goal (1 ∷ 0 ∷ 2 ∷ 1 ∷ []) 0 0 ∷
+    -- 1: no such slab, or no such destination; asked before 2
+    replays S2now S2goal (0 ∷ 1 ∷ []) 1 1 ∷
+    replays S2now S2goal (1 ∷ 0 ∷ 3 ∷ 0 ∷ []) 1 2 ∷
+    replays S2now S2goal (1 ∷ 0 ∷ 2 ∷ 3 ∷ []) 1 2 ∷
+    replays S2now S2goal (2 ∷ 3 ∷ []) 1 1 ∷
+    -- 2: a slab rests on it; asked before 3
+    replays S2now S2goal (2 ∷ 0 ∷ []) 2 1 ∷
+    -- 3: it rests there; asked before 4
+    replays S2now S2goal (1 ∷ 2 ∷ []) 3 1 ∷
+    replays S2now S2goal (1 ∷ 0 ∷ 1 ∷ 0 ∷ []) 3 2 ∷
+    -- 4: onto itself, or onto a slab that carries one
+    replays S2now S2goal (1 ∷ 1 ∷ []) 4 1 ∷
+    replays S4now S4goal (1 ∷ 0 ∷ 1 ∷ 4 ∷ []) 4 2 ∷
+    -- 5: the end differs from the goal. "Replay of no lifts on S2: verdict 5, place 1."
+    replays S2now S2goal [] 5 1 ∷
+    replays S2now S2goal (1 ∷ 0 ∷ []) 5 2 ∷
+    []
+
+-- Each refusal of the two lists with its place, and those of planning, the deadlock test and replay.
+abbrev pub refusals : List Claim
+refusals =
+    -- 3: as many entries
+    refusesBoth (0 ∷ 0 ∷ []) (0 ∷ []) 3 0 ∷
+    refusesBoth (2 ∷ 1 ∷ 5 ∷ []) (0 ∷ 0 ∷ []) 3 0 ∷
+    -- 4, 5 and 6 of the now list, whatever the goal list is
+    refusesBoth (9 ∷ 9 ∷ 0 ∷ []) (0 ∷ 0 ∷ 0 ∷ []) 4 1 ∷
+    refusesBoth (2 ∷ 1 ∷ 5 ∷ []) (2 ∷ 1 ∷ 5 ∷ []) 4 3 ∷
+    refusesBoth (0 ∷ 1 ∷ 1 ∷ 4 ∷ []) (0 ∷ 0 ∷ 0 ∷ 0 ∷ []) 5 3 ∷
+    refusesBoth (0 ∷ 0 ∷ 1 ∷ 1 ∷ 1 ∷ []) (2 ∷ 1 ∷ 9 ∷ 0 ∷ 0 ∷ []) 5 4 ∷
+    refusesBoth (0 ∷ 3 ∷ 2 ∷ []) (0 ∷ 1 ∷ 1 ∷ []) 6 2 ∷
+    -- 7, 8 and 9: the same three of the goal list
+    refusesBoth (0 ∷ 0 ∷ 0 ∷ 0 ∷ []) (2 ∷ 1 ∷ 0 ∷ 7 ∷ []) 7 4 ∷
+    refusesBoth (0 ∷ 0 ∷ 0 ∷ []) (2 ∷ 1 ∷ 5 ∷ []) 7 3 ∷
+    refusesBoth (0 ∷ 0 ∷ 0 ∷ 0 ∷ []) (4 ∷ 4 ∷ 0 ∷ 4 ∷ []) 8 2 ∷
+    refusesBoth (0 ∷ 0 ∷ 0 ∷ 0 ∷ []) (0 ∷ 1 ∷ 1 ∷ 4 ∷ []) 8 3 ∷
+    refusesBoth (0 ∷ 0 ∷ 0 ∷ []) (0 ∷ 3 ∷ 2 ∷ []) 9 2 ∷
+    -- 1: the method, before all else
+    refusesPlan S2now S2goal 0 8 1 ∷
+    refusesPlan (2 ∷ 1 ∷ 5 ∷ []) [] 4 0 1 ∷
+    -- 10: one number too few
+    refusesPlan S2now S2goal 2 7 10 ∷
+    refusesDeadlock S2now S2goal 3 10 ∷
+    -- 11: an odd number of entries
+    refusesReplay S2now S2goal (1 ∷ []) 11 ∷
+    refusesReplay S2now S2goal (1 ∷ 0 ∷ 2 ∷ []) 11 ∷
+    []
+
+-- The limits, over all lists of a length.
+pub record Limits : Type 0 where
+  -- document 01: "4,000 entries pass question 2, 4,001 do not."
+  pub most-passes : (s g : State) → length s ≡ 4000 → Problem s g → checkAnswer s g ≡ record { number = 0; place = 0 }
+  pub more-refused : (s g : State) → length s ≡ 4001 → checkAnswer s g ≡ record { number = 2; place = 0 }
+  -- "Space of 4 × n passes, 4 × n − 1 does not." Likewise 2 × n for the deadlock test.
+  pub room-passes : (m : Method) (s g : State) (space : List ℕ) → Accepted s g → length space ≡ 4 * length s → (planAnswer (numberOf m) s g space) .number ≡ 0
+  pub room-refused : (m : Method) (s g : State) (space : List ℕ) → Accepted s g → length space + 1 ≡ 4 * length s
+      → planAnswer (numberOf m) s g space ≡ record { number = 10; place = 0; count = 0; changed = 0 }
+  pub pairs-pass : (s g : State) (space : List ℕ) → Accepted s g → length space ≡ 2 * length s → (deadlockAnswer s g space) .number ≡ 0
+  pub pairs-refused : (s g : State) (space : List ℕ) → Accepted s g → length space + 1 ≡ 2 * length s
+      → deadlockAnswer s g space ≡ record { number = 10; place = 0; count = 0 }

@@ -113,6 +113,13 @@ module _ (A : ℕ → Type 0) (P : ℕ → Bool) (n : ℕ) (same : (b : ℕ) →
       let high : b ≤ n = w .high in
       lowest-is P n b (w .low) high (to-true (same b (w .low) high) (w .holds)) (λ c a l. to-false (same c a (omega arith)) (w .first c a l))
 
+-- there is one lowest
+pub lowest-only : {A : ℕ → Type 0} {n a b : ℕ} → Lowest A n a → Lowest A n b → a ≡ b
+lowest-only {A} {n} {a} {b} v w =
+    let no-lower : ¬ (a < b) = λ h. w .first a (v .low) h (v .holds) in
+    let no-higher : ¬ (b < a) = λ h. v .first b (w .low) h (w .holds) in
+    omega (arith, no-lower, no-higher)
+
 -- ---- count
 
 pick-le : (t u : Bool) → (t ≡ true → u ≡ true) → pick t 1 ≤ pick u 1
