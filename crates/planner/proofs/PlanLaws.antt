@@ -14,6 +14,7 @@ use Rattle.blocks.specs.State.{State}
 use Rattle.blocks.specs.Position.{Problem, Accepted}
 use Rattle.blocks.specs.Tests.{changed}
 use Rattle.blocks.specs.Method.{Method, plan, methodOf, outcomeBy, planOf, planOutcome}
+use Rattle.blocks.specs.Steps as words
 use Rattle.blocks.specs.Question.{allYes, firstNo, IsMethod, isMethod, asksMethod, asksRoom, problemQuestions, planQuestions, PlanRefused}
 use Rattle.blocks.specs.Answer.{flat, moves, planned, written, planAnswer, planSpace}
 use Rattle.blocks.specs.Demands.{Promise}
@@ -43,8 +44,12 @@ refusal {m} {s} {g} {space} k p r =
       asked = sym (plan-refuses m s g space k p .1 r);
       answer = sym (w .0);
       lent = sym (w .1);
-      promise = λ c d e. let z : _≡_ {A = ℕ} 0 1 = cc in absurd (omega arith);
+      told = λ c d e. none-made e;
+      promise = λ c d e. none-made e;
     }
+  where
+    none-made : {A : Type 0} {c d : ℕ} → Refused k p ≡ Made c d → A
+    none-made e = let z : _≡_ {A = ℕ} 0 1 = cc in absurd (omega arith)
 
 -- a number that is none of the three
 pub no-method : {n : ℕ} → n ≢ 1 → n ≢ 2 → n ≢ 3 → none ≡ methodOf n
@@ -67,18 +72,24 @@ unfolding planQuestions asksMethod
 unknown-way {m} s g space {r} e u =
     refusal 1 0 (inl (refl, (refl, from-false (is-method m) (ap isMethod (sym e ∙ ap namedAs u)))))
 
--- ---- what is written keeps the promise
+-- ---- what is written is told by the method's words, and keeps the promise
 
-promised : {by : Method} {s g : State} {space : List ℕ} {r : ℕ} {space′ : List ℕ} {k : ℕ} → Problem s g → Ran by s g space r space′ → k ≡ r
-    → Promise by s g (moves (take (2 * k) space′))
-promised {by} {s} {g} {space} {r} {space′} {k} q v e =
-    let p = v .moves in
-    let long : 2 * k ≡ length (flat p) = omega (arith, e, v .count, length-flat p) in
-    let front : moves (take (2 * k) space′) ≡ p =
-    ap₂ (λ i l. moves (take i l)) long (v .written) ∙ ap moves (overwrite-front (flat p) space) ∙ pairs-back p in
-    let w = theorems .demand by s g q in
-    let same : w .0 ≡ p = cc (w .1, v .outcome) in
-    subst (Promise by s g) (same ∙ sym front) (w .2)
+module _ {by : Method} {s g : State} {space : List ℕ} {r : ℕ} {space′ : List ℕ} {k : ℕ} (q : Problem s g) (v : Ran by s g space r space′) (e : k ≡ r) where
+  -- the list at the front of the space
+  front : moves (take (2 * k) space′) ≡ v .moves
+  front =
+      let p = v .moves in
+      let long : 2 * k ≡ length (flat p) = omega (arith, e, v .count, length-flat p) in
+      ap₂ (λ i l. moves (take i l)) long (v .written) ∙ ap moves (overwrite-front (flat p) space) ∙ pairs-back p
+
+  told : words.By by s g (moves (take (2 * k) space′))
+  told = subst (words.By by s g) (sym front) (theorems .methods by s g q (v .moves) .0 (v .outcome))
+
+  promised : Promise by s g (moves (take (2 * k) space′))
+  promised =
+      let w = theorems .demand by s g q in
+      let same : w .0 ≡ v .moves = cc (w .1, v .outcome) in
+      subst (Promise by s g) (same ∙ sym front) (w .2)
 
 -- a checked problem with room
 pub solvable : {s g : State} {space : List ℕ} {c : case.Checked} {y y′ : Yard} → Examines s g c y y′ → c ≡ case.the-variants.Accepted → Sized y → Fresh rowCount y
@@ -117,6 +128,10 @@ module _ (m : ℕ) (s g : State) (space : List ℕ) (r : Named) (by : declared.M
           asked = sym yes;
           answer = ap (λ k. answerOf (Made k (changed s g))) (v .count) ∙ sym (ap₂ (λ q o. planned q s g (planOf o)) yes given);
           lent = v .written ∙ sym (ap₂ (λ q o. written q (flat (planOf o)) space) yes given);
+          told = λ k j f b o.
+              let count : u .count ≡ k = cc in
+              let same : asMethod by ≡ b = cc in
+              subst (λ i. words.By i s g (moves (take (2 * k) space′))) same (told (accept .problem) v (sym count));
           promise = λ k j f b o.
               let count : u .count ≡ k = cc in
               let same : asMethod by ≡ b = cc in

@@ -13,6 +13,7 @@ use Rattle.blocks.specs.Move.{Plan}
 use Rattle.blocks.specs.Tests.{changed}
 use Rattle.blocks.specs.Method as method
 use Rattle.blocks.specs.Method.{plan, outcome, methodOf}
+use Rattle.blocks.specs.Steps as words
 use Rattle.blocks.specs.Question.{Asked, allYes, no′, firstNo, planQuestions}
 use Rattle.blocks.specs.Answer.{PlanAnswer, flat, moves, planAnswer, planSpace}
 use Rattle.blocks.specs.Demands.{Promise}
@@ -57,11 +58,12 @@ abbrev pub askedOf : Planned → Asked
 askedOf (Refused k p) = no′ k p
 askedOf (Made c d) = allYes
 
--- Planning: the case, document 01's numbers, the lent space whole, and demand 3 of the list that is written.
+-- Planning: the case, document 01's numbers, the lent space whole; and of the list that is written that the method's words give it, and demand 3.
 pub record Plans (m : ℕ) (s g : State) (space : List ℕ) (r : Planned) (space′ : List ℕ) : Type 0 where
   pub asked : askedOf r ≡ firstNo (planQuestions m s g space)
   pub answer : answerOf r ≡ planAnswer m s g space
   pub lent : space′ ≡ planSpace m s g space
+  pub told : (c d : ℕ) → r ≡ Made c d → (by : method.Method) → methodOf m ≡ some by → words.By by s g (moves (take (2 * c) space′))
   pub promise : (c d : ℕ) → r ≡ Made c d → (by : method.Method) → methodOf m ≡ some by → Promise by s g (moves (take (2 * c) space′))
 
 -- A problem that has been checked, with its rows as the check left them, and room for the plan.
