@@ -1,5 +1,5 @@
--- Lower bounds on every legal plan that arrives: it has at least as many moves as there are misplaced blocks (step 3), and more where a deadlock
--- stands at the start (step 7). By induction on the plan, a move at a time. Assumes nothing.
+-- Lower bounds on every legal plan that arrives: it has at least as many moves as there are misplaced blocks (docs/WHY.md, step 2), and more where a deadlock
+-- stands at the start (step 4 there). By induction on the plan, a move at a time. Assumes nothing.
 use mathlib.Core.Path.{sym, ap, _∙_, subst}
 use mathlib.Core.List.{[], _∷_}
 use Prim.Native.Nat.{ℕ, suc, _≤_, _<_}

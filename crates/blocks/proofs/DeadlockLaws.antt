@@ -1,4 +1,4 @@
--- Deadlocks under moves (steps 5, 6 and 8 of the argument): a move of a block outside a deadlock leaves it as it is, a constructive move lifts no
+-- Deadlocks under moves (docs/WHY.md, steps 4 and 5): a move of a block outside a deadlock leaves it as it is, a constructive move lifts no
 -- deadlocked block, and makes no deadlock. Source: Gupta and Nau (document 000), section 3; document 001, sections 3.1 and 3.2. Assumes nothing.
 use mathlib.Core.Path.{_≡_, sym, ap, _∙_, subst}
 use mathlib.Core.Logic.{_⊎_, inl, inr, _≢_}

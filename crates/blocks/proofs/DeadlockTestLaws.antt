@@ -1,4 +1,4 @@
--- The deadlock test agrees with the definition at the start (step 13): constructive moves keep every deadlock and make none. Assumes nothing.
+-- The deadlock test agrees with the definition at the start (docs/WHY.md, step 3): constructive moves keep every deadlock and make none. Assumes nothing.
 use mathlib.Core.Path.{_≡_, refl, sym, ap, _∙_, subst}
 use mathlib.Core.Logic.{_≢_, _↔_}
 use mathlib.Core.Bool.{Bool, cond}

@@ -1,4 +1,4 @@
--- A legal move of a changes nothing beneath any other block (step 1 of the argument), and keeps a state proper (step 2).
+-- A legal move of a changes nothing beneath any other block (docs/WHY.md, step 2), and keeps a state proper.
 -- Idea: what is met on the way down from b carries something, and a carries nothing. Assumes nothing.
 use mathlib.Core.Path.{_≡_, refl, sym, ap, _∙_}
 use mathlib.Core.Logic.{_⊎_, inl, inr, _≢_}

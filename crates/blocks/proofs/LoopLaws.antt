@@ -1,4 +1,4 @@
--- The loop of a stalled state (step 9) is closed under successors, in whatever place it is begun, and is a deadlock of blocks off the table.
+-- The loop of a stalled state (docs/WHY.md, step 7) is closed under successors, in whatever place it is begun, and is a deadlock of blocks off the table.
 -- Idea: a walk is a list in which each block is followed by its successor; cut where it returns it is closed, and a closed walk may begin anywhere.
 -- Assumes nothing.
 use mathlib.Core.Path.{_≡_, refl, sym, ap, _∙_, subst}

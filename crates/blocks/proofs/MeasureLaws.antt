@@ -1,4 +1,4 @@
--- The measure Ψ of step 10: misplaced blocks, and once more those off the table now and in the goal. Every move of a method takes from it:
+-- The measure of the methods (docs/WHY.md, step 6): misplaced blocks, and once more those off the table now and in the goal. Every move of a method takes from it:
 -- a move to the table takes exactly 1, a constructive move 1 or 2, and exactly 1 where the block stands on the table. Assumes nothing.
 use mathlib.Core.Path.{_≡_, sym, ap, _∙_}
 use mathlib.Core.Logic.{_⊎_, inl, inr, _≢_}

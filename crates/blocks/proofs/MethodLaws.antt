@@ -1,4 +1,4 @@
--- The three methods arrive (steps 9 to 12 of the argument): their runs, what they put down, where they end, and how many moves they write.
+-- The three methods arrive (docs/WHY.md, steps 5, 6 and 8): their runs, what they put down, where they end, and how many moves they write.
 -- Source: document 001, sections 3.1 and 3.2. Assumes nothing.
 use mathlib.Core.Path.{_≡_, refl, sym, ap, _∙_, subst}
 use mathlib.Core.Logic.{_≢_, _↔_}

@@ -1,4 +1,4 @@
--- How a move changes the count of misplaced blocks (step 3): the status of its own block alone can change. Assumes nothing.
+-- How a move changes the count of misplaced blocks (docs/WHY.md, step 2): the status of its own block alone can change. Assumes nothing.
 use mathlib.Core.Path.{_≡_, refl, sym, ap, _∙_, subst}
 use mathlib.Core.Logic.{_⊎_, inl, inr, _≢_}
 use Prim.Native.Nat.{ℕ, zero, suc, _≤_}

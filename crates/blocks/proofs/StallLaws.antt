@@ -1,4 +1,4 @@
--- The successor in a stalled state (step 9): it is misplaced and clear, above the blocker now, and the block is above the blocker in the goal.
+-- The successor in a stalled state (docs/WHY.md, step 7): it is misplaced and clear, above the blocker now, and the block is above the blocker in the goal.
 -- Idea: the top of a misplaced block's tower is misplaced; on the goal support of the lowest misplaced block the goal puts that block only. Assumes nothing.
 use mathlib.Core.Path.{_≡_, refl, sym, ap, _∙_, subst}
 use mathlib.Core.Logic.{_≢_}

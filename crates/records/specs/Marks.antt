@@ -1,5 +1,5 @@
--- The table of marks (document 01, "Records of the program"). Which mark and how many fields a kind has is said here and nowhere else in `specs/`.
--- Assumes nothing.
+-- The table of marks (document 01, "Records of the program"). The other definitions take marks and numbers of fields from here; only the examples write
+-- bytes out. Assumes nothing.
 use Prim.Native.Nat.{ℕ, _+_, _*_}
 use mathlib.Core.List.{List, [], _∷_}
 use lib.ListN.{getD}

@@ -29,11 +29,11 @@ endAt at n = goalsAt at n + n * size Gl
 
 -- ---- the entries that are there, up to the first record that is not
 
--- "NW: now entry; n of them, by slab".
+-- NW, by document 01's table: a now entry; "n of them, by slab".
 abbrev pub nows : List ℕ → ℕ → ℕ → List ℕ
 nows bytes at n = entriesAt Nw bytes (nowsAt at) n
 
--- "GL: goal entry; n of them, by slab".
+-- GL: a goal entry; "n of them, by slab".
 abbrev pub goals : List ℕ → ℕ → ℕ → List ℕ
 goals bytes at n = entriesAt Gl bytes (goalsAt at n) n
 
@@ -54,7 +54,7 @@ bodyAt n m bytes at =
     (cond (goalsThere bytes at n) (Whole n m (endAt at n)) (Broken m (1 + n + length (goals bytes at n))))
     (Broken m (1 + length (nows bytes at n)))
 
--- "HD: n, method"; "n at most 4,000".
+-- HD: n and the method; "n at most 4,000".
 abbrev pub sheetBy : Found → List ℕ → ℕ → Sheet
 sheetBy Missing bytes at = Headless
 sheetBy (Record n m) bytes at = cond (leb n most) (bodyAt n m bytes at) (Long m)
