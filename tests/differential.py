@@ -40,7 +40,7 @@ from case import (
     testing,
 )
 from library import Fault, Library, Outcome, shared_object
-from reading import METHODS, MOST, TOP, Yard, deadlock_space, plan_space
+from reading import METHODS, MOST, NO_VERDICT, TOP, Yard, deadlock_space, plan_space
 from sheets import Sheet, Walk
 
 ROOT = Path(__file__).resolve().parent.parent
@@ -317,7 +317,7 @@ def given(trial: Trial, lines: Iterable[str]) -> None:
         front, _, pairs = stated.partition("|")
         numbers = tuple(numbers_of(front.strip()))
         if case.operation == "replay":
-            numbers = (numbers[0], 0, numbers[1]) if len(numbers) == 2 else (0, *numbers[2:])
+            numbers = (numbers[0], NO_VERDICT, numbers[1]) if len(numbers) == 2 else (0, *numbers[2:])
         front_of = numbers_of((pairs.split() or ["-"])[0])
         expected = Outcome.of(Answer(numbers, paired(front_of)), case.space)
         trial.count(got == expected, case, lambda: f"stated {told(expected)}; library {told(got)}")
