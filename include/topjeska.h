@@ -2,7 +2,7 @@
  *
  * An arrangement of n slabs is a list of n numbers: entry i - 1 says what slab i rests on, 0 for the
  * ground. A list is lent as a pointer and a length. The pointer is to as many numbers as the length
- * says; it is not NULL, even where the length is 0, and the space overlaps no other list.
+ * says, and may be NULL where the length is 0; the space overlaps no other list.
  *
  * In every answer `refusal` is 0 where the call was answered, else the number of the question that
  * got a "no"; `place` is then its place, a count is 0, and the space holds what it held. A refused
