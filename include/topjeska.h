@@ -5,8 +5,8 @@
  * says, and may be NULL where the length is 0; the space overlaps no other list.
  *
  * In every answer `refusal` is 0 where the call was answered, else the number of the question that
- * got a "no"; `place` is then its place, a count is 0, and the space holds what it held. A refused
- * replay gives no verdict: TOPJESKA_NO_VERDICT stands in its place.
+ * got a "no"; `place` is then its place, the counts are 0, and the space holds what it held. A
+ * refused replay gives no verdict: TOPJESKA_NO_VERDICT stands in its place.
  * No call allocates memory or keeps a pointer. A call uses less than 160 KiB of stack. */
 #ifndef TOPJESKA_H
 #define TOPJESKA_H

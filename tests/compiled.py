@@ -26,7 +26,7 @@ class Count(NamedTuple):
     said: str
 
 
-def build(made: Path, sources: Sequence[str], library: Path, flags: Sequence[str] = (), include: Path = INCLUDE) -> str:
+def build(made: Path, sources: Sequence[str], library: Path, flags: Sequence[str], include: Path) -> str:
     """Builds a program from sources of tests/c; what the compiler says against it, empty where it is built."""
     made.parent.mkdir(parents=True, exist_ok=True)
     compiler = COMPILERS[Path(sources[0]).suffix]
@@ -38,7 +38,7 @@ def build(made: Path, sources: Sequence[str], library: Path, flags: Sequence[str
 
 def run(program: Path) -> Count:
     """Runs a program whose last line is its count; one failure where it ends otherwise."""
-    # Nothing here keeps memory, and the search for lost memory does not run under every debugger.
+    # The programs keep no memory, and where a process is traced the search for leaks fails.
     env = {**os.environ, "ASAN_OPTIONS": "detect_leaks=0"}
     try:
         done = subprocess.run([program], capture_output=True, text=True, check=False, env=env, timeout=PATIENCE)
@@ -52,7 +52,9 @@ def run(program: Path) -> Count:
     return Count(passed, failed, said)
 
 
-def tried(made: Path, sources: Sequence[str], library: Path, flags: Sequence[str] = (), include: Path = INCLUDE) -> Count:
+def tried(
+    made: Path, sources: Sequence[str], library: Path, flags: Sequence[str] = (), include: Path = INCLUDE
+) -> Count:
     """Builds and runs a program; one failure where it is not built."""
     wrong = build(made, sources, library, flags, include)
     return Count(0, 1, wrong) if wrong else run(made)

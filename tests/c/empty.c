@@ -45,7 +45,7 @@ static void deadlocks(size_t n, size_t m, size_t len) {
     space_is("space of deadlock", space, held, 8);
 }
 
-/* No lifts leave slab 1 elsewhere; the two lifts arrive; where there are no slabs the first is bad. */
+/* No lifts leave slab 1 elsewhere; the two lifts arrive; without slabs the first is bad. */
 static void replays(size_t n, size_t m, size_t len) {
     topjeska_replay_answer got =
         topjeska_replay(list(now, n), n, list(goal, m), m, list(lifts, len), len);

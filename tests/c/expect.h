@@ -21,7 +21,9 @@ static void count(int good, const char *what, uint64_t a, uint64_t b, uint64_t c
     printf("failed: %s: %" PRIu64 " %" PRIu64 " %" PRIu64 " %" PRIu64 "\n", what, a, b, c, d);
 }
 
-static void check_is(const char *what, topjeska_check_answer got, uint64_t refusal, uint64_t place) {
+/* The answer of each operation held to what its fields shall be, in the header's order. */
+static void check_is(const char *what, topjeska_check_answer got, uint64_t refusal,
+                     uint64_t place) {
     count(got.refusal == refusal && got.place == place, what, got.refusal, got.place, 0, 0);
 }
 
@@ -45,7 +47,8 @@ static void replay_is(const char *what, topjeska_replay_answer got, uint64_t ref
 }
 
 /* A space held to what it shall hold. */
-static void space_is(const char *what, const uint16_t *space, const uint16_t *expected, size_t len) {
+static void space_is(const char *what, const uint16_t *space, const uint16_t *expected,
+                     size_t len) {
     count(memcmp(space, expected, len * sizeof *space) == 0, what, space[0], space[1], space[2],
           space[3]);
 }

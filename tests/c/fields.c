@@ -37,7 +37,8 @@ static void deadlocks(void) {
     const uint16_t untouched[8] = {0}, pairs[] = {1, 4, 3, 2};
     deadlock_is("deadlock of a bad now", topjeska_deadlock(bad, 3, ground, 3, space, 6), 4, 3, 0);
     deadlock_is("deadlock of a bad goal", topjeska_deadlock(ground, 3, bad, 3, space, 6), 7, 3, 0);
-    deadlock_is("deadlock in 7 numbers", topjeska_deadlock(s4_now, 4, s4_goal, 4, space, 7), 10, 0, 0);
+    deadlock_is("deadlock in 7 numbers", topjeska_deadlock(s4_now, 4, s4_goal, 4, space, 7), 10, 0,
+                0);
     space_is("space of refused tests", space, untouched, 8);
     deadlock_is("deadlock of S4", topjeska_deadlock(s4_now, 4, s4_goal, 4, space, 8), 0, 0, 2);
     space_is("pairs of S4", space, pairs, 4);
@@ -45,9 +46,9 @@ static void deadlocks(void) {
 }
 
 static void replays(void) {
-    /* After 1→0 slab 2 is clear and rests on 3: onto itself, to where it rests; slab 3 is not clear. */
+    /* After 1→0 slab 2 is clear: it goes onto itself, or to 3, where it rests. Slab 3 is covered. */
     const uint16_t itself[] = {1, 0, 2, 2}, rests[] = {1, 0, 2, 3}, covered[] = {3, 0};
-    /* Two lifts of S6, then a destination that is no slab; two lifts alone leave slab 1 on the ground. */
+    /* Two lifts of S6, and then one to no slab. */
     const uint16_t outside[] = {1, 0, 2, 0, 1, 4};
     replay_is("replay of a bad now", topjeska_replay(bad, 3, ground, 3, s6_lifts, 6), 4,
               TOPJESKA_NO_VERDICT, 3);
@@ -57,11 +58,12 @@ static void replays(void) {
               TOPJESKA_NO_VERDICT, 0);
     replay_is("replay of S6", topjeska_replay(s6_now, 3, s6_goal, 3, s6_lifts, 6), 0, 0, 0);
     replay_is("replay onto itself", topjeska_replay(s6_now, 3, s6_goal, 3, itself, 4), 0, 4, 2);
-    replay_is("replay to where it rests", topjeska_replay(s6_now, 3, s6_goal, 3, rests, 4), 0, 3, 2);
-    replay_is("replay of a covered slab", topjeska_replay(s6_now, 3, s6_goal, 3, covered, 2), 0, 2, 1);
+    replay_is("replay to its support", topjeska_replay(s6_now, 3, s6_goal, 3, rests, 4), 0, 3, 2);
+    replay_is("replay from beneath", topjeska_replay(s6_now, 3, s6_goal, 3, covered, 2), 0, 2, 1);
     replay_is("replay outside", topjeska_replay(s6_now, 3, s6_goal, 3, outside, 6), 0, 1, 3);
     replay_is("replay cut short", topjeska_replay(s6_now, 3, s6_goal, 3, s6_lifts, 4), 0, 5, 1);
-    replay_is("replay of as many numbers", topjeska_replay(s4_now, 4, s4_goal, 4, s6_lifts, 4), 0, 3, 2);
+    /* As many numbers as slabs, so that no length tells the three lists apart. */
+    replay_is("replay of 4 numbers", topjeska_replay(s4_now, 4, s4_goal, 4, s6_lifts, 4), 0, 3, 2);
 }
 
 int main(void) {

@@ -1,7 +1,7 @@
 // Runs cases of the library from standard input and writes the answer of each to a line of standard output.
 // A frame is four numbers: the operation, and the lengths of three lists; then the numbers of the lists: now, goal and a third.
 // Each number has 16 bits, high byte first.
-// Operation 1 checks a sheet: number, place. Operation 2 replays the third list: number, verdict, place; the verdict of a refused one is 65535, which is none.
+// Operation 1 checks a sheet: number, place. Operation 2 replays the third list: number, verdict, place.
 // Operation 3 plans, the third list being the method and the length of the lent space: number, place, count, changed, space.
 // Operation 4 tests for a deadlock, the third list being the same, its method not read: number, place, count, space.
 // The lent space holds 65535, 65534, 65533 and so on before: above every slab, and different at each place. What it holds afterwards
@@ -14,6 +14,7 @@ use planner::Planned;
 use problem::Checked;
 use validator::Replayed;
 
+// What a refused replay has in place of a verdict.
 const NO_VERDICT: u16 = 65535;
 
 fn main() {
