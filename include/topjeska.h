@@ -2,11 +2,11 @@
  *
  * An arrangement of n slabs is a list of n numbers: entry i - 1 says what slab i rests on, 0 for the
  * ground. A list is lent as a pointer and a length. The pointer is to as many numbers as the length
- * says; it is not NULL, even where the length is 0, and the space overlaps no other list.
+ * says, and may be NULL where the length is 0; the space overlaps no other list.
  *
  * In every answer `refusal` is 0 where the call was answered, else the number of the question that
- * got a "no"; `place` is then its place, the other fields are 0, and the space holds what it held.
- * Read `refusal` first: a refused replay gives no verdict, and the 0 in its place says nothing.
+ * got a "no"; `place` is then its place, the counts are 0, and the space holds what it held. A
+ * refused replay gives no verdict: TOPJESKA_NO_VERDICT stands in its place.
  * No call allocates memory or keeps a pointer. A call uses less than 160 KiB of stack. */
 #ifndef TOPJESKA_H
 #define TOPJESKA_H
@@ -33,10 +33,14 @@ typedef struct {
     uint64_t refusal, place, count;
 } topjeska_deadlock_answer;
 
+/* The verdict of a refused replay: a number that is none. */
+#define TOPJESKA_NO_VERDICT 65535u
+
 /* The verdict, and the place of the refusal or of the verdict. Verdicts 1 to 4 are of a bad lift, and
  * the place counts the lifts from 1: 1 the slab is not 1 to n or the destination is above n, 2 the
- * slab is not clear, 3 it already rests there, 4 the destination is the slab itself or not clear. 5: every lift is legal and the end
- * is not the goal; the place is the lowest slab that differs. 0: the list arrives. */
+ * slab is not clear, 3 it already rests there, 4 the destination is the slab itself or not clear.
+ * 5: every lift is legal and the end is not the goal; the place is the lowest slab that differs.
+ * 0: the list arrives. */
 typedef struct {
     uint64_t refusal, verdict, place;
 } topjeska_replay_answer;

@@ -28,6 +28,7 @@ from case import (
     Case,
     by_all,
     case_of,
+    checking,
     flat,
     line,
     listed,
@@ -39,8 +40,8 @@ from case import (
     replaying,
     testing,
 )
-from library import Fault, Library, Outcome, shared_object
-from reading import METHODS, MOST, TOP, Yard, deadlock_space, plan_space
+from library import FIELDS, Fault, Library, Outcome, shared_object
+from reading import METHODS, MOST, NO_VERDICT, TOP, Yard, deadlock_space, plan_space
 from sheets import Sheet, Walk
 
 ROOT = Path(__file__).resolve().parent.parent
@@ -305,22 +306,41 @@ def long_lists(rng: Random) -> Iterator[Case]:
         yield replaying(now, now, (there + back)[:-1])
 
 
+def hold(trial: Trial, case: Case, stated: Answer) -> None:
+    """Holds the outcome of a case to a stated answer."""
+    got = trial.compare(case)
+    expected = Outcome.of(stated, case.space)
+    why = got if isinstance(got, str) else told(got)
+    trial.count(got == expected, case, lambda: f"stated {told(expected)}; library {why}")
+
+
+def stated_check(case: Case, stated: Answer) -> Answer | None:
+    """What an answer states of `check`: every operation puts questions 2 to 9, and only 1 comes before them."""
+    fields = dict(zip(FIELDS[case.operation], stated.numbers))
+    number = fields["refusal"]
+    if case.operation == "check" or number == 1:
+        return None
+    return Answer((number, fields["place"]) if 2 <= number <= 9 else (0, 0), [])
+
+
 def given(trial: Trial, lines: Iterable[str]) -> None:
-    """Runs lines; where a line states an answer after `=>`, the outcome is held to that too."""
+    """Runs lines; where one states an answer after `=>`, holds the outcome to it, and `check` to what follows."""
     for text in filter(str.strip, lines):
-        wanted, _, stated = text.partition("=>")
+        wanted, _, after = text.partition("=>")
         case = case_of(wanted)
-        got = trial.compare(case)
-        if isinstance(got, str) or not stated:
+        if not after:
+            got = trial.compare(case)
             print(got if isinstance(got, str) else told(got))
             continue
-        front, _, pairs = stated.partition("|")
+        front, _, pairs = after.partition("|")
         numbers = tuple(numbers_of(front.strip()))
         if case.operation == "replay":
-            numbers = (numbers[0], 0, numbers[1]) if len(numbers) == 2 else (0, *numbers[2:])
-        front_of = numbers_of((pairs.split() or ["-"])[0])
-        expected = Outcome.of(Answer(numbers, paired(front_of)), case.space)
-        trial.count(got == expected, case, lambda: f"stated {told(expected)}; library {told(got)}")
+            numbers = (numbers[0], NO_VERDICT, numbers[1]) if len(numbers) == 2 else (0, *numbers[2:])
+        stated = Answer(numbers, paired(numbers_of((pairs.split() or ["-"])[0])))
+        hold(trial, case, stated)
+        checked = stated_check(case, stated)
+        if checked:
+            hold(trial, checking(case.now, case.goal), checked)
 
 
 def plain_library() -> Path:

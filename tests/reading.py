@@ -12,10 +12,12 @@ from collections.abc import Sequence
 Yard = Sequence[int]
 Pair = tuple[int, int]
 
-# The most slabs of a sheet, the highest 16-bit number, and the numbers of the methods.
+# The most slabs of a sheet, the highest 16-bit number, the numbers of the methods, and what a refused
+# replay has in place of a verdict.
 MOST = 4000
 TOP = 65535
 METHODS = (1, 2, 3)
+NO_VERDICT = 65535
 
 
 def slabs(yard: Yard) -> range:
@@ -235,12 +237,12 @@ def lift_fault(yard: Yard, slab: int, destination: int) -> int:
 
 
 def replay(now: Yard, goal: Yard, lifts: Sequence[int]) -> tuple[int, int, int]:
-    """Replay: number, verdict and place; the verdict of a refusal is 0 and the place is the refusal's."""
+    """Replay: number, verdict and place; a refusal has no verdict, and the place is the refusal's."""
     number, place = check(now, goal)
     if number != 0:
-        return number, 0, place
+        return number, NO_VERDICT, place
     if len(lifts) % 2 != 0:
-        return 11, 0, 0
+        return 11, NO_VERDICT, 0
     yard: Yard = list(now)
     for k in range(len(lifts) // 2):
         slab, destination = lifts[2 * k], lifts[2 * k + 1]

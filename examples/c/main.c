@@ -66,8 +66,7 @@ int main(void) {
         show(&sheets[i]);
 
     const sheet *s2 = &sheets[0];
-    uint16_t none[1] = {0};
-    topjeska_replay_answer replay = topjeska_replay(s2->now, s2->n, s2->goal, s2->n, none, 0);
+    topjeska_replay_answer replay = topjeska_replay(s2->now, s2->n, s2->goal, s2->n, NULL, 0);
     accepted(replay.refusal, replay.place);
     if (replay.verdict == 5)
         printf("S2 without lifts: slab %" PRIu64 " differs\n", replay.place);

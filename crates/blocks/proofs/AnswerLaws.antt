@@ -7,7 +7,7 @@ use Rattle.blocks.specs.State.{State}
 use Rattle.blocks.specs.Method.{planOutcome}
 use Rattle.blocks.specs.Question.{no′, firstNo, planQuestions, deadlockQuestions, replayQuestions}
 use Rattle.blocks.specs.Question.{PlanRefused, DeadlockRefused, ReplayRefused}
-use Rattle.blocks.specs.Answer.{planAnswer, planSpace, deadlockAnswer, deadlockSpace, replayAnswer}
+use Rattle.blocks.specs.Answer.{planAnswer, planSpace, deadlockAnswer, deadlockSpace, noVerdict, replayAnswer}
 use Rattle.blocks.proofs.QuestionLaws.{Decides, first-no}
 use Rattle.blocks.proofs.DecidedLaws.{method-decided, room-decided, even-decided, plan-decided, then-decides}
 
@@ -51,6 +51,6 @@ module _ (s g : State) (lifts : List ℕ) where
   pub replay-refuses : (k p : ℕ) → (firstNo (replayQuestions s g lifts) ≡ no′ k p) ↔ ReplayRefused s g lifts k p
   replay-refuses k p = first-no (replayQuestions s g lifts) replay-decides (no′ k p)
 
-  pub replay-refusal : (k p : ℕ) → ReplayRefused s g lifts k p → replayAnswer s g lifts ≡ record { number = k; verdict = 0; place = p }
+  pub replay-refusal : (k p : ℕ) → ReplayRefused s g lifts k p → replayAnswer s g lifts ≡ record { number = k; verdict = noVerdict; place = p }
   unfolding replayAnswer
   replay-refusal k p r = rw (replay-refuses k p .1 r)

@@ -14,7 +14,7 @@ use Rattle.blocks.specs.Move.{_⟶_, Plan, Legal, after, LegalPlan, Solv
 use Rattle.blocks.specs.Loop.{memberᵇ}
 use Rattle.blocks.specs.Question.{Asked, allYes, no′, firstNo, FirstNo, numbers}
 use Rattle.blocks.specs.Replay.{moveQuestions, BadMove, Replayed, arrives, faulty, differs}
-use Rattle.blocks.specs.Answer.{ReplayAnswer, firstDifference, arrival, orBad, replayFrom}
+use Rattle.blocks.specs.Answer.{ReplayAnswer, noVerdict, firstDifference, arrival, orBad, replayFrom}
 use Rattle.lists.proofs.ReflectLaws.{Reflects, to-false, not-not, reflects-not, reflects-and, reflects-iff, eqb-reflects, leb-reflects}
 use Rattle.lists.proofs.SearchLaws.{lowest-zero, lowest-found, lowest-absent, lowest-unique}
 use Rattle.blocks.proofs.StateLaws.{length-put}
@@ -72,6 +72,9 @@ module _ (s : State) (a x : ℕ) where
 
   bad-verdict : (v : ℕ) → BadMove s a x v → v ≢ 0
   bad-verdict v b = other-number (moveQuestions s a x) 0 (ap (memberᵇ 0) (move-order s a x)) v 0 b
+
+  bad-has-verdict : (v : ℕ) → BadMove s a x v → v ≢ noVerdict
+  bad-has-verdict v b = other-number (moveQuestions s a x) noVerdict (ap (memberᵇ noVerdict) (move-order s a x)) v 0 b
 
 -- ---- a plan
 
@@ -183,3 +186,12 @@ replay-arrives s g same p = (λ e. is (said s g same p) e, λ w. ap (λ r. r .ve
 
     is : (v : ℕ) × (k : ℕ) × Replayed s g p v k → (replayFrom 1 s g p) .verdict ≡ 0 → Solves s g p
     is (v, k, w) e = solves w (sym (ap (λ r. r .verdict) (answers s g p w)) ∙ e)
+
+-- the filler of a refused replay is no plan's verdict
+pub no-verdict : (s g : State) (p : Plan) (k : ℕ) → ¬ Replayed s g p noVerdict k
+no-verdict s g p k w = apart w refl
+  where
+    apart : {v k : ℕ} → Replayed s g p v k → v ≢ noVerdict
+    apart (arrives w) e = absurd (omega (arith, e))
+    apart (faulty q a x r d h b) e = bad-has-verdict (after s q) a x _ b e
+    apart (differs h w) e = absurd (omega (arith, e))

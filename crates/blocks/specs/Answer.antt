@@ -82,7 +82,11 @@ deadlockSpace s g space = written (firstNo (deadlockQuestions s g space)) (deadl
 
 -- ---- replay: questions 2 to 9 and 11
 
--- "a verdict and a place". "a refused replay gives no verdict": where `number` is not 0, `verdict` is a filler, 0, and the place is the refusal's.
+-- "a refused replay gives no verdict": the filler in its place, a number that is no verdict.
+abbrev pub noVerdict : ℕ
+noVerdict = 65535
+
+-- "a verdict and a place". Where `number` is not 0, `verdict` is `noVerdict` and the place is the refusal's.
 pub record ReplayAnswer : Type 0 where
   pub number : ℕ
   pub verdict : ℕ
@@ -107,7 +111,7 @@ replayFrom k s g ((a ⟶ x) ∷ p) = orBad (firstNo (moveQuestions s a x)) k (re
 
 abbrev pub replayed : Asked → ReplayAnswer → ReplayAnswer
 replayed allYes answer = answer
-replayed (no′ k q) answer = record { number = k; verdict = 0; place = q }
+replayed (no′ k q) answer = record { number = k; verdict = noVerdict; place = q }
 
 unfoldable pub replayAnswer : State → State → List ℕ → ReplayAnswer
 replayAnswer s g lifts = replayed (firstNo (replayQuestions s g lifts)) (replayFrom 1 s g (moves lifts))

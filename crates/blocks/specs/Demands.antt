@@ -19,7 +19,7 @@ use Rattle.blocks.specs.Method.{Method, Us, plan, outcome, numberOf, dea
 use Rattle.blocks.specs.Question.{allYes, no′, firstNo, numbers, IsMethod, problemQuestions, planQuestions, deadlockQuestions, replayQuestions}
 use Rattle.blocks.specs.Question.{Refused, PlanRefused, DeadlockRefused, ReplayRefused}
 use Rattle.blocks.specs.Replay.{moveQuestions, Replayed}
-use Rattle.blocks.specs.Answer.{flat, moves, checkAnswer, planAnswer, planSpace, deadlockAnswer, deadlockSpace, replayFrom, replayAnswer}
+use Rattle.blocks.specs.Answer.{flat, moves, checkAnswer, planAnswer, planSpace, deadlockAnswer, deadlockSpace, noVerdict, replayFrom, replayAnswer}
 
 -- "without a deadlock at the start": no blocks are deadlocked.
 abbrev pub NoDeadlock : State → State → Type 0
@@ -92,7 +92,7 @@ pub record Theorems : Type 0 where
   pub deadlock-refusal : (s g : State) (space : List ℕ) (k p : ℕ) → DeadlockRefused s g space k p
       → (deadlockAnswer s g space ≡ record { number = k; place = p; count = 0 }) × (deadlockSpace s g space ≡ space)
   pub replay-refusal : (s g : State) (lifts : List ℕ) (k p : ℕ) → ReplayRefused s g lifts k p
-      → replayAnswer s g lifts ≡ record { number = k; verdict = 0; place = p }
+      → replayAnswer s g lifts ≡ record { number = k; verdict = noVerdict; place = p }
   -- and otherwise the answer is given, with what the lent space then holds
   pub plan-answers : (m : Method) (s g : State) (space : List ℕ) → Accepted s g → 4 * length s ≤ length space → (p : Plan) → outcome m s g ≡ plan p
       → (planAnswer (numberOf m) s g space ≡ record { number = 0; place = 0; count = length p; changed = changed s g })
@@ -124,6 +124,8 @@ pub record Theorems : Type 0 where
   pub replay-arrives : (s g : State) → length g ≡ length s → (p : Plan) → ((replayFrom 1 s g p) .verdict ≡ 0) ↔ Solves s g p
   pub replay-says : (s g : State) (lifts : List ℕ)
       → (replayAnswer s g lifts ≡ record { number = 0; verdict = 0; place = 0 }) ↔ (Accepted s g × (length lifts % 2 ≡ 0) × Solves s g (moves lifts))
+  -- what a refused replay has in place of a verdict is the verdict of no plan
+  pub no-verdict : (s g : State) (p : Plan) (k : ℕ) → ¬ Replayed s g p noVerdict k
   -- document 01's d: misplaced, at or beneath b in the goal, on a c that is in position
   pub last-misplaced : (s g : State) → Problem s g → (b : ℕ) → Misplaced s g b → (d : ℕ) → d ≡ lastMisplaced s g (length s) b
       → Misplaced s g d × InPosition s g (support g d) × ((k : ℕ) × (down g k b ≡ d))

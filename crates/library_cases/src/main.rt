@@ -14,6 +14,9 @@ use planner::Planned;
 use problem::Checked;
 use validator::Replayed;
 
+// What a refused replay has in place of a verdict.
+const NO_VERDICT: u16 = 65535;
+
 fn main() {
     let mut nums = [0u16; 28002];
     let mut space = [0u16; 16384];
@@ -153,7 +156,7 @@ fn tell_checked(checked: Checked) {
 
 fn tell_replayed(replayed: Replayed) {
     match replayed {
-        Replayed::Refused { number, place } => tell_three(number, 0, place as usize),
+        Replayed::Refused { number, place } => tell_three(number, NO_VERDICT, place as usize),
         Replayed::Judged { verdict, place } => tell_three(0, verdict, place),
     }
     tell_end();

@@ -10,7 +10,7 @@ use Rattle.blocks.specs.Question.{PlanRefused, planQuestions, DeadlockRefused, 
 use Rattle.blocks.proofs.QuestionLaws.{other-number}
 use Rattle.blocks.proofs.DecidedLaws.{plan-order, deadlock-order}
 use Rattle.blocks.proofs.Theorems.{theorems}
-use Rattle.blocks.specs.Answer.{checkAnswer, replayAnswer}
+use Rattle.blocks.specs.Answer.{checkAnswer, noVerdict, replayAnswer}
 use Rattle.problem.specs.Checked as problem
 use Rattle.problem.specs.declared.Checked as checked
 use Rattle.planner.specs.Answers as planner
@@ -75,7 +75,7 @@ module _ {s g : State} {space : List ℕ} {r : tested.Tested} {space′ : List �
 -- ---- replay
 
 module _ {s g : State} {lifts : List ℕ} {r : replayed.Replayed} (w : validator.Replays s g lifts r) where
-  pub replay-refused : {k p : ℕ} → r ≡ replayed.the-variants.Refused k p → asReplay (record { refusal = k; verdict = 0; place = p }) ≡ replayAnswer s g lifts
+  pub replay-refused : {k p : ℕ} → r ≡ replayed.the-variants.Refused k p → asReplay (record { refusal = k; verdict = noVerdict; place = p }) ≡ replayAnswer s g lifts
   replay-refused e = ap validator.answerOf (sym e) ∙ w .answer
 
   pub replay-judged : {v p : ℕ} → r ≡ replayed.the-variants.Judged v p → asReplay (record { refusal = 0; verdict = v; place = p }) ≡ replayAnswer s g lifts

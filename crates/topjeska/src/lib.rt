@@ -35,6 +35,9 @@ pub struct ReplayAnswer {
     pub place: u64,
 }
 
+// What a refused replay has in place of a verdict.
+const NO_VERDICT: u64 = 65535;
+
 // Questions 2 to 9.
 #[no_mangle]
 pub extern "C" fn topjeska_check(initial: &[u16], goal: &[u16]) -> CheckAnswer
@@ -118,7 +121,7 @@ pub extern "C" fn topjeska_replay(initial: &[u16], goal: &[u16], lifts: &[u16]) 
     match replayed {
         Replayed::Refused { number, place } => ReplayAnswer {
             refusal: number as u64,
-            verdict: 0,
+            verdict: NO_VERDICT,
             place: place as u64,
         },
         Replayed::Judged { verdict, place } => ReplayAnswer {

@@ -8,14 +8,14 @@ use Rattle.blocks.specs.State.{State}
 use Rattle.blocks.specs.Position.{Accepted}
 use Rattle.blocks.specs.Move.{Solves}
 use Rattle.blocks.specs.Question.{Asked, allYes, no′, firstNo, replayQuestions}
-use Rattle.blocks.specs.Answer.{ReplayAnswer, moves, replayFrom, replayAnswer}
+use Rattle.blocks.specs.Answer.{ReplayAnswer, noVerdict, moves, replayFrom, replayAnswer}
 use Rattle.problem.specs.Known.{Loads}
 use Rattle.validator.specs.declared.Replayed.{Replayed}
 use Rattle.validator.specs.declared.Replayed.the-variants.{Refused, Judged}
 
--- document 01's number, verdict and place: on a refusal the verdict is 0.
+-- document 01's number, verdict and place; a refusal has no verdict.
 abbrev pub answerOf : Replayed → ReplayAnswer
-answerOf (Refused k p) = record { number = k; verdict = 0; place = p }
+answerOf (Refused k p) = record { number = k; verdict = noVerdict; place = p }
 answerOf (Judged v p) = record { number = 0; verdict = v; place = p }
 
 -- Which case of the answer says what of the questions.

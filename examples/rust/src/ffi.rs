@@ -27,6 +27,9 @@ pub struct DeadlockAnswer {
     pub count: u64,
 }
 
+/// The verdict of a refused replay: a number that is none.
+pub const NO_VERDICT: u64 = 65535;
+
 /// The verdict, and the place of the refusal or of the verdict.
 #[repr(C)]
 #[derive(Clone, Copy, Debug, PartialEq, Eq)]

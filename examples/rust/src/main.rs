@@ -1,8 +1,8 @@
 //! Sheets of document 01 through the library: their lifts, their deadlocks, a replay and a refusal.
 
-use topjeska::{check, deadlock, plan, replay, Method, Refusal, Verdict};
+use topjeska::{check, deadlock, plan, replay, Method, ReplayError, Verdict};
 
-fn main() -> Result<(), Refusal> {
+fn main() -> Result<(), ReplayError> {
     let sheets: [(&str, &[u16], &[u16]); 3] = [
         ("S2", &[2, 0], &[0, 1]),
         ("S4", &[2, 0, 4, 0], &[4, 0, 2, 0]),

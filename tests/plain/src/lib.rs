@@ -41,6 +41,9 @@ pub struct DeadlockAnswer {
     pub count: u64,
 }
 
+/// What a refused replay has in place of a verdict.
+const NO_VERDICT: u64 = 65535;
+
 /// The verdict of a replay; the place is the refusal's or the verdict's.
 #[repr(C)]
 #[derive(Clone, Copy, Debug, Default, PartialEq, Eq)]
@@ -102,7 +105,7 @@ pub fn replay(initial: &[u16], goal: &[u16], moves: &[u16]) -> ReplayAnswer {
         },
         Err(Refusal { number, place }) => ReplayAnswer {
             refusal: number,
-            verdict: 0,
+            verdict: NO_VERDICT,
             place,
         },
     }

@@ -1,0 +1,43 @@
+// Empty vectors of C++ lent to every operation: what their data() is, is left to the library of C++.
+#include <vector>
+
+#include "expect.h"
+
+int main() {
+    std::vector<uint16_t> now, goal, space, lifts;
+    check_is("check", topjeska_check(now.data(), now.size(), goal.data(), goal.size()), 0, 0);
+    for (uint16_t method = 1; method <= 3; method++)
+        plan_is("plan",
+                topjeska_plan(method, now.data(), now.size(), goal.data(), goal.size(), space.data(),
+                              space.size()),
+                0, 0, 0, 0);
+    deadlock_is("deadlock",
+                topjeska_deadlock(now.data(), now.size(), goal.data(), goal.size(), space.data(),
+                                  space.size()),
+                0, 0, 0);
+    replay_is("replay",
+              topjeska_replay(now.data(), now.size(), goal.data(), goal.size(), lifts.data(),
+                              lifts.size()),
+              0, 0, 0);
+
+    goal.push_back(0);
+    check_is("check of unequal lists",
+             topjeska_check(now.data(), now.size(), goal.data(), goal.size()), 3, 0);
+    now = {0};
+    plan_is("plan without space",
+            topjeska_plan(2, now.data(), now.size(), goal.data(), goal.size(), space.data(),
+                          space.size()),
+            10, 0, 0, 0);
+    replay_is("replay without lifts",
+              topjeska_replay(now.data(), now.size(), goal.data(), goal.size(), lifts.data(),
+                              lifts.size()),
+              0, 0, 0);
+    space = {7, 7, 7, 7};
+    const uint16_t held[] = {7, 7, 7, 7};
+    plan_is("plan of a slab in position",
+            topjeska_plan(3, now.data(), now.size(), goal.data(), goal.size(), space.data(),
+                          space.size()),
+            0, 0, 0, 0);
+    space_is("its space", space.data(), held, 4);
+    return ended();
+}
