@@ -135,20 +135,30 @@ replay-answers s g lifts a h v k =
     let r = replay-verdict s g (a .problem .same) (moves lifts) v k in
     (λ e. r .0 (sym same ∙ e), λ w. same ∙ r .1 w)
 
--- verdict 0 of an answered replay
-pub replay-says : (s g : State) (lifts : List ℕ)
-    → (replayAnswer s g lifts ≡ record { number = 0; verdict = 0; place = 0 }) ↔ (Accepted s g × (length lifts % 2 ≡ 0) × Solves s g (moves lifts))
-replay-says s g lifts = (from (firstNo (replayQuestions s g lifts)) refl, λ w. replay-answers s g lifts (w .0) (w .1) 0 0 .1 (Replayed.arrives (w .2)))
+-- verdict 0: a refused replay has another number in its place
+pub replay-zero : (s g : State) (lifts : List ℕ)
+    → ((replayAnswer s g lifts) .verdict ≡ 0) ↔ (Accepted s g × (length lifts % 2 ≡ 0) × Solves s g (moves lifts))
+replay-zero s g lifts = (
+  from (firstNo (replayQuestions s g lifts)) refl,
+  λ w. ap (λ r. r .verdict) (replay-answers s g lifts (w .0) (w .1) 0 0 .1 (Replayed.arrives (w .2))),
+)
   where
-    from : (v : Asked) → firstNo (replayQuestions s g lifts) ≡ v → replayAnswer s g lifts ≡ record { number = 0; verdict = 0; place = 0 }
+    from : (v : Asked) → firstNo (replayQuestions s g lifts) ≡ v → (replayAnswer s g lifts) .verdict ≡ 0
         → Accepted s g × (length lifts % 2 ≡ 0) × Solves s g (moves lifts)
     from allYes e h =
         let w = replay-accepts s g lifts .0 e in
-        let none : (replayFrom 1 s g (moves lifts)) .verdict ≡ 0 = ap (λ r. r .verdict) (sym (replay-followed s g lifts (w .0) (w .1)) ∙ h) in
-        (w .0, w .1, replay-arrives s g (w .0 .problem .same) (moves lifts) .0 none)
+        let zero : (replayFrom 1 s g (moves lifts)) .verdict ≡ 0 = ap (λ r. r .verdict) (sym (replay-followed s g lifts (w .0) (w .1))) ∙ h in
+        (w .0, w .1, replay-arrives s g (w .0 .problem .same) (moves lifts) .0 zero)
     from (no′ k p) e h =
-        let r = replay-refuses s g lifts k p .0 e in
-        absurd (other-number (replayQuestions s g lifts) 0 (ap (memberᵇ 0) (replay-order s g lifts)) k p r (ap (λ a. a .number) (sym (replay-refusal s g lifts k p r) ∙ h)))
+        let filler = ap (λ r. r .verdict) (replay-refusal s g lifts k p (replay-refuses s g lifts k p .0 e)) in
+        absurd (omega (arith, filler, h))
+
+pub replay-says : (s g : State) (lifts : List ℕ)
+    → (replayAnswer s g lifts ≡ record { number = 0; verdict = 0; place = 0 }) ↔ (Accepted s g × (length lifts % 2 ≡ 0) × Solves s g (moves lifts))
+replay-says s g lifts = (
+  λ e. replay-zero s g lifts .0 (ap (λ r. r .verdict) e),
+  λ w. replay-answers s g lifts (w .0) (w .1) 0 0 .1 (Replayed.arrives (w .2)),
+)
 
 -- the list in the lent space is the method's plan
 written-list : Method → State → State → List ℕ → Plan

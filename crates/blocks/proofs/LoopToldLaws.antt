@@ -131,8 +131,8 @@ module _ {s g : State} (p : Proper s) where
       let size-b = length-append (b .way) m in
       let sizes : length v ≡ length (visited b) = ap length same in
       let at : length (a .way) ≡ length (b .way) =
-          one-place v (a .visits .once) (length (a .way)) (length (b .way)) (omega (arith, size-a, a .some)) (omega (arith, sizes, size-b, b .some))
-          (loop-first a ∙ first ∙ sym (loop-first b) ∙ ap (λ w. getD w (length (b .way)) 0) (sym same)) in
+      one-place v (a .visits .once) (length (a .way)) (length (b .way)) (omega (arith, size-a, a .some)) (omega (arith, sizes, size-b, b .some))
+      (loop-first a ∙ first ∙ sym (loop-first b) ∙ ap (λ w. getD w (length (b .way)) 0) (sym same)) in
       sym (drop-append-seam (a .way) l) ∙ ap (drop (length (a .way))) same ∙ ap (λ k. drop k (visited b)) at ∙ drop-append-seam (b .way) m
 
 -- a list is the loop that is computed exactly where it is the loop

@@ -323,12 +323,12 @@ module _ {g : State} (putDown : State → State → ℕ) (PutsDown : State → S
 us-only : {s g : State} {p q : Plan} → Problem s g → ByUs s g p → ByUs s g q → p ≡ q
 us-only {s} {g} {p} {q} i v w =
     let front : v .first ≡ w .first = steps-only (λ t. Problem t g) (Clears g) (λ t. (b : ℕ) → ¬ Perched t g b) keeps
-        (λ t a b x y j k l. clears-only k l) (λ t a x j e k. e a (k .lowest .holds)) i (v .clearing) (w .clearing) in
+    (λ t a b x y j k l. clears-only k l) (λ t a x j e k. e a (k .lowest .holds)) i (v .clearing) (w .clearing) in
     let mid : Problem (after s (v .first)) g = steps-kept (λ t. Problem t g) (Clears g) (λ t. (b : ℕ) → ¬ Perched t g b) keeps i (v .clearing) in
     let back : v .then ≡ w .then = steps-only (λ t. Problem t g) (Builds g) (λ t. NoneReady t g)
-        (λ t a x j k. problem-moved (builds-constructive k .legal) j)
-        (λ t a b x y j k l. builds-only k l) (λ t a x j e k. e a (k .lowest .holds)) mid (v .building)
-        (subst (λ r. Steps (Builds g) (λ t. NoneReady t g) (after s r) (w .then)) (sym front) (w .building)) in
+    (λ t a x j k. problem-moved (builds-constructive k .legal) j)
+    (λ t a b x y j k l. builds-only k l) (λ t a x j e k. e a (k .lowest .holds)) mid (v .building)
+    (subst (λ r. Steps (Builds g) (λ t. NoneReady t g) (after s r) (w .then)) (sym front) (w .building)) in
     v .whole ∙ ap (λ r. r ++ v .then) front ∙ ap (λ r. w .first ++ r) back ∙ sym (w .whole)
   where
     keeps : (t : State) (a x : ℕ) → Problem t g → Clears g t a x → Problem (put t a x) g

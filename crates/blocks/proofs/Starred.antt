@@ -31,6 +31,5 @@ sheets-hold = (
       (refl, refl, refl) & (refl, refl, refl) & (refl, refl, refl) & tt,
   (refl, refl) & (refl, refl) & (refl, refl) & (refl, refl) & (refl, refl) & (refl, refl) & tt,
   refl & refl & refl & refl & refl & refl & refl & refl & refl & refl & refl & refl & tt,
-  refl & refl & refl & refl & refl & refl & refl & refl & refl & refl & refl & refl & (refl, refl) & (refl, refl) & (refl, refl) & (refl, refl) &
-      (refl, refl) & (refl, refl) & tt,
+  refl & refl & refl & refl & refl & refl & refl & refl & refl & refl & refl & refl & (refl, refl) & (refl, refl) & (refl, refl) & (refl, refl) & refl & refl & tt,
 )

@@ -119,6 +119,7 @@ theorems =
       replay-verdict = replays.replay-verdict;
       replay-arrives = replays.replay-arrives;
       replay-says = answers.replay-says;
+      replay-zero = answers.replay-zero;
       no-verdict = replays.no-verdict;
       last-misplaced =
           λ s g p b m d e. subst (λ x. Misplaced s g x × InPosition s g (support g x) × ((k : ℕ) × (down g k b ≡ x))) (sym e) (stalls.last-misplaced p b m);

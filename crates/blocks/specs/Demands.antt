@@ -124,7 +124,9 @@ pub record Theorems : Type 0 where
   pub replay-arrives : (s g : State) → length g ≡ length s → (p : Plan) → ((replayFrom 1 s g p) .verdict ≡ 0) ↔ Solves s g p
   pub replay-says : (s g : State) (lifts : List ℕ)
       → (replayAnswer s g lifts ≡ record { number = 0; verdict = 0; place = 0 }) ↔ (Accepted s g × (length lifts % 2 ≡ 0) × Solves s g (moves lifts))
-  -- what a refused replay has in place of a verdict is the verdict of no plan
+  -- verdict 0 alone says it: what a refused replay has in place of a verdict is the verdict of no plan
+  pub replay-zero : (s g : State) (lifts : List ℕ)
+      → ((replayAnswer s g lifts) .verdict ≡ 0) ↔ (Accepted s g × (length lifts % 2 ≡ 0) × Solves s g (moves lifts))
   pub no-verdict : (s g : State) (p : Plan) (k : ℕ) → ¬ Replayed s g p noVerdict k
   -- document 01's d: misplaced, at or beneath b in the goal, on a c that is in position
   pub last-misplaced : (s g : State) → Problem s g → (b : ℕ) → Misplaced s g b → (d : ℕ) → d ≡ lastMisplaced s g (length s) b

@@ -22,7 +22,7 @@ pub data Claim : Type 0 where
   refusesBoth : State → State → ℕ → ℕ → Claim  -- number and place of a check of both lists
   refusesPlan : State → State → ℕ → ℕ → ℕ → Claim  -- by the method, with so many numbers lent: number, place 0
   refusesDeadlock : State → State → ℕ → ℕ → Claim  -- with so many numbers lent: number, place 0
-  refusesReplay : State → State → List ℕ → ℕ → Claim  -- of the list: number, place 0
+  refusesReplay : State → State → List ℕ → ℕ → Claim  -- of the list: number, no verdict, place 0
 
 -- Lent space full of a number that no slab has.
 abbrev pub lent : ℕ → List ℕ
@@ -50,7 +50,7 @@ Holds (refusesBoth s g k p) = checkAnswer s g ≡ record { number = k; place = p
 Holds (refusesPlan s g m n k) =
     (planAnswer m s g (lent n) ≡ record { number = k; place = 0; count = 0; changed = 0 }) × (planSpace m s g (lent n) ≡ lent n)
 Holds (refusesDeadlock s g n k) = (deadlockAnswer s g (lent n) ≡ record { number = k; place = 0; count = 0 }) × (deadlockSpace s g (lent n) ≡ lent n)
-Holds (refusesReplay s g l k) = ((replayAnswer s g l) .number ≡ k) × ((replayAnswer s g l) .place ≡ 0)
+Holds (refusesReplay s g l k) = replayAnswer s g l ≡ record { number = k; verdict = 65535; place = 0 }
 
 abbrev pub AllHold : List Claim → Type 0
 AllHold [] = Unit {0}

@@ -19,7 +19,8 @@ use Rattle.deadlocks.specs.Answers as deadlocks
 use Rattle.deadlocks.specs.declared.Tested as tested
 use Rattle.validator.specs.Replayed as validator
 use Rattle.validator.specs.declared.Replayed as replayed
-use Rattle.topjeska.specs.Exports.{asCheck, asReplay, ExportsPlan, ExportsDeadlock}
+use Rattle.topjeska.specs.Exports.{asCheck, asReplay, ExportsPlan, ExportsDeadlock, ExportsReplay}
+use Rattle.topjeska.specs.declared.ReplayAnswer.{ReplayAnswer}
 
 -- ---- checking
 
@@ -39,14 +40,16 @@ plan-number m s g space k p r = other-number (planQuestions m s g space) 0 (ap (
 module _ {m : ℕ} {s g : State} {space : List ℕ} {r : planned.Planned} {space′ : List ℕ} (w : planner.Plans m s g space r space′) where
   pub plan-refused : {k p : ℕ} → r ≡ planned.the-variants.Refused k p → ExportsPlan m s g space (record { refusal = k; place = p; count = 0; changed = 0 }) space′
   plan-refused {k} {p} e =
+      let n : k ≢ 0 = plan-number m s g space k p (theorems .plan-refuses m s g space k p .0 (sym (w .asked) ∙ ap planner.askedOf e)) in
       record {
         answer = ap planner.answerOf (sym e) ∙ w .answer;
         lent = w .lent;
-        promise = λ z. absurd (plan-number m s g space k p (theorems .plan-refuses m s g space k p .0 (sym (w .asked) ∙ ap planner.askedOf e)) z);
+        told = λ z. absurd (n z);
+        promise = λ z. absurd (n z);
       }
 
   pub plan-made : {c d : ℕ} → r ≡ planned.the-variants.Made c d → ExportsPlan m s g space (record { refusal = 0; place = 0; count = c; changed = d }) space′
-  plan-made {c} {d} e = record { answer = ap planner.answerOf (sym e) ∙ w .answer; lent = w .lent; promise = λ _. w .promise c d e }
+  plan-made {c} {d} e = record { answer = ap planner.answerOf (sym e) ∙ w .answer; lent = w .lent; told = λ _. w .told c d e; promise = λ _. w .promise c d e }
 
 -- ---- the deadlock test
 
@@ -74,9 +77,16 @@ module _ {s g : State} {space : List ℕ} {r : tested.Tested} {space′ : List �
 
 -- ---- replay
 
-module _ {s g : State} {lifts : List ℕ} {r : replayed.Replayed} (w : validator.Replays s g lifts r) where
-  pub replay-refused : {k p : ℕ} → r ≡ replayed.the-variants.Refused k p → asReplay (record { refusal = k; verdict = noVerdict; place = p }) ≡ replayAnswer s g lifts
-  replay-refused e = ap validator.answerOf (sym e) ∙ w .answer
+-- the answer of the definition, and what its verdict 0 says
+replay-exported : {s g : State} {lifts : List ℕ} {r : ReplayAnswer} → asReplay r ≡ replayAnswer s g lifts → ExportsReplay s g lifts r
+replay-exported {s} {g} {lifts} e =
+    let said = theorems .replay-zero s g lifts in
+    let same = ap (λ a. a .verdict) e in
+    record { answer = e; arrives = (λ z. said .0 (sym same ∙ z), λ k. same ∙ said .1 k) }
 
-  pub replay-judged : {v p : ℕ} → r ≡ replayed.the-variants.Judged v p → asReplay (record { refusal = 0; verdict = v; place = p }) ≡ replayAnswer s g lifts
-  replay-judged e = ap validator.answerOf (sym e) ∙ w .answer
+module _ {s g : State} {lifts : List ℕ} {r : replayed.Replayed} (w : validator.Replays s g lifts r) where
+  pub replay-refused : {k p : ℕ} → r ≡ replayed.the-variants.Refused k p → ExportsReplay s g lifts (record { refusal = k; verdict = noVerdict; place = p })
+  replay-refused e = replay-exported (ap validator.answerOf (sym e) ∙ w .answer)
+
+  pub replay-judged : {v p : ℕ} → r ≡ replayed.the-variants.Judged v p → ExportsReplay s g lifts (record { refusal = 0; verdict = v; place = p })
+  replay-judged e = replay-exported (ap validator.answerOf (sym e) ∙ w .answer)

@@ -1,14 +1,17 @@
 -- What the exported answers say, in document 01's numbers: `refusal` 0 means answered. Assumes nothing.
-use Prim.Native.Nat.{ℕ, _*_}
+use Prim.Native.Nat.{ℕ, _*_, _%_}
 use mathlib.Core.Path.{_≡_}
-use mathlib.Core.Logic.{_≢_}
+use mathlib.Core.Logic.{_≢_, _↔_}
 use mathlib.Core.List.{List}
 use mathlib.Core.Option.{some}
 use lib.ListN.{length, take}
 use Rattle.blocks.specs.State.{State}
+use Rattle.blocks.specs.Position.{Accepted}
+use Rattle.blocks.specs.Move.{Solves}
 use Rattle.blocks.specs.Answer as answer
-use Rattle.blocks.specs.Answer.{moves, planAnswer, planSpace, deadlockAnswer, deadlockSpace}
+use Rattle.blocks.specs.Answer.{moves, planAnswer, planSpace, deadlockAnswer, deadlockSpace, replayAnswer}
 use Rattle.blocks.specs.Method.{methodOf, Method}
+use Rattle.blocks.specs.Steps.{By}
 use Rattle.blocks.specs.Demands.{Promise, NoDeadlock, Shown}
 use Rattle.topjeska.specs.declared.CheckAnswer.{CheckAnswer}
 use Rattle.topjeska.specs.declared.PlanAnswer.{PlanAnswer}
@@ -27,10 +30,11 @@ asDeadlock r = record { number = r .refusal; place = r .place; count = r .count 
 abbrev pub asReplay : ReplayAnswer → answer.ReplayAnswer
 asReplay r = record { number = r .refusal; verdict = r .verdict; place = r .place }
 
--- Planning: the answer that the definition gives, the lent space whole, and demand 3 of the list that is written.
+-- Planning: the answer that the definition gives, the lent space whole; and of the list that is written that the method's words give it, and demand 3.
 pub record ExportsPlan (m : ℕ) (s g : State) (space : List ℕ) (r : PlanAnswer) (space′ : List ℕ) : Type 0 where
   pub answer : asPlan r ≡ planAnswer m s g space
   pub lent : space′ ≡ planSpace m s g space
+  pub told : r .refusal ≡ 0 → (method : Method) → methodOf m ≡ some method → By method s g (moves (take (2 * r .count) space′))
   pub promise : r .refusal ≡ 0 → (method : Method) → methodOf m ≡ some method → Promise method s g (moves (take (2 * r .count) space′))
 
 -- The deadlock test: the answer that the definition gives, the lent space whole; count 0 says that no blocks are deadlocked at the start, another count
@@ -40,3 +44,8 @@ pub record ExportsDeadlock (s g : State) (space : List ℕ) (r : DeadlockAnswer)
   pub lent : space′ ≡ deadlockSpace s g space
   pub free : r .refusal ≡ 0 → r .count ≡ 0 → NoDeadlock s g
   pub shown : r .refusal ≡ 0 → r .count ≢ 0 → (blocks : List ℕ) × (length blocks ≡ r .count) × Shown s g blocks (take (2 * r .count) space′)
+
+-- Replay: the answer that the definition gives; verdict 0 says that the lists are a sheet, and that every lift of the list is legal and its end is the goal.
+pub record ExportsReplay (s g : State) (lifts : List ℕ) (r : ReplayAnswer) : Type 0 where
+  pub answer : asReplay r ≡ replayAnswer s g lifts
+  pub arrives : (r .verdict ≡ 0) ↔ (Accepted s g × (length lifts % 2 ≡ 0) × Solves s g (moves lifts))

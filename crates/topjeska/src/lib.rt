@@ -1,7 +1,7 @@
 // What C and Rust link: the four operations with answers of plain numbers. include/topjeska.h declares them.
 ghost use mathlib.Core.Path.{_≡_};
-ghost use Rattle.blocks.specs.Answer.{checkAnswer, replayAnswer};
-ghost use Rattle.topjeska.specs.Exports.{asCheck, asReplay, ExportsPlan, ExportsDeadlock};
+ghost use Rattle.blocks.specs.Answer.{checkAnswer};
+ghost use Rattle.topjeska.specs.Exports.{asCheck, ExportsPlan, ExportsDeadlock, ExportsReplay};
 use deadlocks::Tested;
 use planner::Planned;
 use problem::Checked;
@@ -115,7 +115,7 @@ pub extern "C" fn topjeska_deadlock(
 // Replay of a list of lifts.
 #[no_mangle]
 pub extern "C" fn topjeska_replay(initial: &[u16], goal: &[u16], lifts: &[u16]) -> ReplayAnswer
-    ensures { λ r. ⌜ asReplay r ≡ replayAnswer (now (initial .entry)) (now (goal .entry)) (now (lifts .entry)) ⌝ }
+    ensures { λ r. ⌜ ExportsReplay (now (initial .entry)) (now (goal .entry)) (now (lifts .entry)) r ⌝ }
 {
     let replayed = validator::validate(initial, goal, lifts);
     match replayed {
