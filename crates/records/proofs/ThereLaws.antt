@@ -70,6 +70,11 @@ entries-missing k bytes at (suc n) l = by (recordAt k bytes at) refl (λ few. en
         ap (λ c. at + c * size k) more ∙ omega arith in
         rest (omega (arith, more)) (subst (There k bytes) on w)
 
+-- Records that are all there end within the bytes.
+pub all-room : (k : Kind) (bytes : List ℕ) (at n : ℕ) → at ≤ length bytes → AllThere k bytes at n → at + n * size k ≤ length bytes
+all-room k bytes at zero l w = omega arith
+all-room k bytes at (suc n) l w = let last = w n (omega arith) .all in omega (arith, last)
+
 module _ (k : Kind) (bytes : List ℕ) (at n : ℕ) where
   abbrev count : ℕ
   count = length (entriesAt k bytes at n)
