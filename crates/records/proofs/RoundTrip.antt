@@ -195,7 +195,7 @@ round-trip k x y at space = record {
 -- ---- entries one after another
 
 -- A record that stands between others is read.
-read-between : (k : Kind) (x y : ℕ) (front rest : List ℕ) → recordAt k (front ++ (recordBytes k (x ∷ y ∷ []) ++ rest)) (length front) ≡ Record x (pick (ltb 1 (markOf k .fields)) y)
+pub read-between : (k : Kind) (x y : ℕ) (front rest : List ℕ) → recordAt k (front ++ (recordBytes k (x ∷ y ∷ []) ++ rest)) (length front) ≡ Record x (pick (ltb 1 (markOf k .fields)) y)
 read-between k x y front rest =
     ap (λ (l : List ℕ). recordAt k l (length front)) (sym (overwrite-between front (recordBytes k (x ∷ y ∷ [])) rest))
     ∙ read-back k x y (length front) (front ++ (recordBytes k (x ∷ y ∷ []) ++ rest)) (simp (length-append, length-record) (omega arith))

@@ -8,12 +8,12 @@ use native.Mathlib.Omega.{arith}
 use lib.ListN.{length, getD}
 use Rattle.lists.proofs.ReflectLaws.{Reflects, holds, fails, from-true, to-true, reflects-and, reflects-iff, eqb-reflects, leb-reflects, same?}
 use Rattle.records.specs.Marks.{markOf, size}
-use Rattle.records.specs.Records.{hasRecord, fieldOf, recordAt, foundIf, entriesAt}
-use Rattle.records.specs.There.{There, AllThere, FirstMissing}
+use Rattle.records.specs.Records.{fieldAt, hasRecord, fieldOf, recordAt, foundIf, entriesAt}
+use Rattle.records.specs.There.{There, AllThere, FirstMissing, Entries}
 use Rattle.records.specs.declared.Kind.{Kind}
 use Rattle.records.specs.declared.Found.{Found}
 use Rattle.records.specs.declared.Found.the-variants.{Record, Missing}
-use Rattle.records.proofs.ReadLaws.{found-has}
+use Rattle.records.proofs.ReadLaws.{found-has, found-first}
 use Rattle.records.proofs.EntryLaws.{length-entries, entries-more, entries-none}
 
 -- ---- one record
@@ -53,6 +53,23 @@ entries-there k bytes at (suc n) = by (recordAt k bytes at) refl (entries-there 
         let on : at + size k + i * size k ≡ at + suc i * size k = omega arith in
         subst (There k bytes) on (rest i (omega (arith, ap length (entries-more k bytes at n e))))
 
+-- with their first fields;
+entries-each : (k : Kind) (bytes : List ℕ) (at n i : ℕ) → i < length (entriesAt k bytes at n) → getD (entriesAt k bytes at n) i 0 ≡ fieldAt bytes (at + i * size k + 2)
+entries-each k bytes at zero i = λ l. absurd (omega (arith, length-entries k bytes at 0))
+entries-each k bytes at (suc n) i = by (recordAt k bytes at) refl i (λ j. entries-each k bytes (at + size k) n j)
+  where
+    by : (f : Found) → recordAt k bytes at ≡ f → (i : ℕ)
+        → ((j : ℕ) → j < length (entriesAt k bytes (at + size k) n) → getD (entriesAt k bytes (at + size k) n) j 0 ≡ fieldAt bytes (at + size k + j * size k + 2))
+        → i < length (entriesAt k bytes at (suc n)) → getD (entriesAt k bytes at (suc n)) i 0 ≡ fieldAt bytes (at + i * size k + 2)
+    by Missing e i rest l = absurd (omega (arith, ap length (entries-none k bytes at (suc n) e)))
+    by (Record x y) e zero rest l =
+        let here : at + 2 ≡ at + 0 * size k + 2 = omega arith in
+        ap (λ s. getD s 0 0) (entries-more k bytes at n e) ∙ found-first k bytes at e ∙ ap (fieldAt bytes) here
+    by (Record x y) e (suc i) rest l =
+        let on : at + size k + i * size k + 2 ≡ at + suc i * size k + 2 = omega arith in
+        let more = entries-more k bytes at n e in
+        ap (λ s. getD s (suc i) 0) more ∙ rest i (omega (arith, ap length more)) ∙ ap (fieldAt bytes) on
+
 -- and the next is not.
 pub entries-missing : (k : Kind) (bytes : List ℕ) (at n : ℕ) → length (entriesAt k bytes at n) < n → ¬ There k bytes (at + length (entriesAt k bytes at n) * size k)
 entries-missing k bytes at zero l = absurd (omega arith)
@@ -85,6 +102,11 @@ module _ (k : Kind) (bytes : List ℕ) (at n : ℕ) where
       by : AllThere k bytes at n → (count ≡ n) ⊎ (¬ (count ≡ n)) → count ≡ n
       by w (inl e) = e
       by w (inr m) = let few : count < n = omega (arith, m, length-entries k bytes at n) in absurd (entries-missing k bytes at n few (w count few))
+
+  pub all-entries : AllThere k bytes at n → Entries k bytes at n (entriesAt k bytes at n)
+  all-entries w =
+      let long : count ≡ n = all-there .1 w in
+      record { there = w; long = long; each = λ i l. entries-each k bytes at n i (omega arith) }
 
   pub first-missing : count < n → FirstMissing k bytes at n count
   first-missing l = record { within = l; before = entries-there k bytes at n; missing = entries-missing k bytes at n l }

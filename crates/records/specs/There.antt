@@ -5,6 +5,7 @@ use mathlib.Core.Path.{_≡_}
 use mathlib.Core.List.{List}
 use lib.ListN.{length, getD}
 use Rattle.records.specs.Marks.{markOf, size}
+use Rattle.records.specs.Records.{fieldAt}
 use Rattle.records.specs.declared.Kind.{Kind}
 
 -- document 01: "are all bytes of the record there, with its own mark"?
@@ -22,3 +23,9 @@ pub record FirstMissing (k : Kind) (bytes : List ℕ) (at n i : ℕ) : Type 0 wh
   pub within : i < n
   pub before : AllThere k bytes at i
   pub missing : ¬ There k bytes (at + i * size k)
+
+-- The n records are all there, and the list has their first fields, by their order.
+pub record Entries (k : Kind) (bytes : List ℕ) (at n : ℕ) (l : List ℕ) : Type 0 where
+  pub there : AllThere k bytes at n
+  pub long : length l ≡ n
+  pub each : (i : ℕ) → i < n → getD l i 0 ≡ fieldAt bytes (at + i * size k + 2)

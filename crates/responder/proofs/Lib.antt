@@ -8,6 +8,7 @@ pub mod AnsweredLaws
 pub mod ReplyLaws
 pub mod CutLaws
 pub mod Order
+pub mod AskedLaws
 pub mod InputBound
 pub mod AnswerBound
 pub mod Example

@@ -1,5 +1,6 @@
 pub mod Responses
 pub mod Order
+pub mod Asked
 pub mod Answers
 pub mod Bounds
 pub mod Example
