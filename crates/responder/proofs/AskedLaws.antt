@@ -41,7 +41,7 @@ module _ (bytes : List ℕ) (n m : ℕ) where
   found-head : recordAt Hd bytes 0 ≡ Record n m → Head bytes n m
   found-head e = record { there = found-there Hd bytes 0 e; slabs = found-first Hd bytes 0 e; method = found-second Hd bytes 0 e head-fields }
 
-  head-found : Head bytes n m → recordAt Hd bytes 0 ≡ Record n m
+  pub head-found : Head bytes n m → recordAt Hd bytes 0 ≡ Record n m
   head-found h =
       let e = there-found Hd bytes 0 (h .there) in
       e ∙ ap₂ Record (found-first Hd bytes 0 e ∙ sym (h .slabs)) (found-second Hd bytes 0 e head-fields ∙ sym (h .method))
@@ -125,7 +125,7 @@ module _ (bytes : List ℕ) (n m : ℕ) where
         accepted = plan-accepts m (nows bytes 0 n) (goals bytes 0 n) (lent n) .0 (plan-yes n m bytes a) .1;
       }
 
-  all-yes : Complete bytes n m → firstNo (sheetQuestions n m bytes) ≡ allYes
+  pub all-yes : Complete bytes n m → firstNo (sheetQuestions n m bytes) ≡ allYes
   unfolding sheetQuestions asksMethod asksSize asksNows asksGoals asksTail
   all-yes c =
       let room : 4 * length (nows bytes 0 n) ≤ length (lent n) = omega (arith, c .nows-read .long, length-replicate {A = ℕ} (4 * n) 0) in

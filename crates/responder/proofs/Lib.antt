@@ -9,6 +9,7 @@ pub mod ReplyLaws
 pub mod CutLaws
 pub mod Order
 pub mod AskedLaws
+pub mod ToldLaws
 pub mod InputBound
 pub mod AnswerBound
 pub mod Example
