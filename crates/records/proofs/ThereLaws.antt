@@ -1,12 +1,11 @@
 -- The sentences of question 12 and what the reader computes say the same. Assumes nothing.
 use Prim.Native.Nat.{ℕ, zero, suc, _+_, _*_, _≤_, _<_}
-use mathlib.Core.Path.{_≡_, refl, sym, _∙_, ap, subst}
+use mathlib.Core.Path.{_≡_, refl, _∙_, ap, subst}
 use mathlib.Core.Logic.{_⊎_, inl, inr, _↔_}
-use mathlib.Core.Bool.{Bool, true, false}
 use mathlib.Core.List.{List}
 use native.Mathlib.Omega.{arith}
 use lib.ListN.{length, getD}
-use Rattle.lists.proofs.ReflectLaws.{Reflects, holds, fails, from-true, to-true, reflects-and, reflects-iff, eqb-reflects, leb-reflects, same?}
+use Rattle.lists.proofs.ReflectLaws.{Reflects, from-true, to-true, reflects-and, reflects-iff, eqb-reflects, leb-reflects, same?}
 use Rattle.records.specs.Marks.{markOf, size}
 use Rattle.records.specs.Records.{fieldAt, hasRecord, fieldOf, recordAt, foundIf, entriesAt}
 use Rattle.records.specs.There.{There, AllThere, FirstMissing, Entries}

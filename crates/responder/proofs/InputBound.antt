@@ -2,7 +2,7 @@
 use Prim.Native.Nat.{ℕ, _+_, _*_, _≤_, _<_}
 use mathlib.Core.Path.{_≡_, refl, sym, _∙_, ap, ap₂}
 use mathlib.Core.Logic.{_⊎_, inl, inr}
-use mathlib.Core.Bool.{Bool, cond}
+use mathlib.Core.Bool.{Bool, false, cond}
 use mathlib.Core.List.{List}
 use native.Mathlib.Omega.{arith}
 use borrow.Author.Tests.{lt-leb}
@@ -51,7 +51,7 @@ module _ (n m : ℕ) (bytes : List ℕ) (more : enough < length bytes) where
       same : n ≤ most → asked cut ≡ asked bytes
       same small =
           ap₂ (λ s g. behind s g (leb (length cut) (endAt 0 n))) nows-same goals-same
-          ∙ ap (behind (nows bytes 0 n) (goals bytes 0 n)) (lt-leb (length cut) (endAt 0 n) (omega (arith, cut-size, shorter)) ∙ sym (lt-leb (length bytes) (endAt 0 n) (omega (arith, more, shorter))))
+          ∙ ap (behind (nows bytes 0 n) (goals bytes 0 n)) (tail cut (omega (arith, cut-size, shorter)) ∙ sym (tail bytes (omega (arith, more, shorter))))
         where
           nows-same : nows cut 0 n ≡ nows bytes 0 n
           nows-same = same-entries enough bytes Nw n (nowsAt 0) (omega (arith, goals-at 0 n, enough-is, small))
@@ -61,6 +61,9 @@ module _ (n m : ℕ) (bytes : List ℕ) (more : enough < length bytes) where
 
           shorter : endAt 0 n < enough
           shorter = omega (arith, end-at 0 n, enough-is, small)
+
+          tail : (l : List ℕ) → endAt 0 n < length l → leb (length l) (endAt 0 n) ≡ false
+          tail l h = lt-leb (length l) (endAt 0 n) h
 
       by : {t : Bool} → Reflects (n ≤ most) t
           → cond (isMethod (methodOf m)) (cond t (asked cut) (no′ 2 0)) (no′ 1 0) ≡ cond (isMethod (methodOf m)) (cond t (asked bytes) (no′ 2 0)) (no′ 1 0)

@@ -3,13 +3,13 @@ pub mod MoveLaws
 pub mod BehindLaws
 pub mod DecidedLaws
 pub mod PlannedLaws
+pub mod Order
+pub mod RefusalLaws
+pub mod ToldLaws
 pub mod AskLaws
 pub mod AnsweredLaws
 pub mod ReplyLaws
 pub mod CutLaws
-pub mod Order
-pub mod AskedLaws
-pub mod ToldLaws
 pub mod InputBound
 pub mod AnswerBound
 pub mod Example

@@ -1,7 +1,7 @@
 -- What the answer tells, read back: the theorem of `specs/Told.antt`. What is written is read back, and it is the plan of the head's method. Assumes nothing.
 use Prim.Native.Nat.{ℕ, zero, suc, _+_, _*_, _≤_}
 use mathlib.Core.Path.{_≡_, refl, sym, _∙_, ap, ap₂, subst}
-use mathlib.Core.Logic.{_⊎_, inl, inr, _↔_}
+use mathlib.Core.Logic.{inl, inr}
 use mathlib.Core.List.{List, [], _∷_, _++_, append-assoc, append-nil}
 use mathlib.Core.Option.{some}
 use native.Mathlib.Omega.{arith}
@@ -13,7 +13,7 @@ use Rattle.blocks.specs.Move.{_⟶_, Plan}
 use Rattle.blocks.specs.Tests.{changed}
 use Rattle.blocks.specs.Method.{Method, Us, Gn1, Gn2, plan, outcome, numberOf, methodOf, outcomeBy, planOf, planOutcome}
 use Rattle.blocks.specs.Question.{Asked, allYes, no′, IsMethod}
-use Rattle.blocks.specs.Answer.{PlanAnswer, planAnswer}
+use Rattle.blocks.specs.Answer.{PlanAnswer}
 use Rattle.blocks.specs.Demands.{Promise, Economy}
 use Rattle.blocks.proofs.QuestionLaws.{clash}
 use Rattle.blocks.proofs.Theorems.{theorems}
@@ -26,11 +26,11 @@ use Rattle.records.proofs.RoundTrip.{read-between}
 use Rattle.records.proofs.WriteLaws.{length-record}
 use Rattle.sheets.specs.Sheets.{nows, goals}
 use Rattle.responder.specs.Responses.{lent, refusalBytes, moveBytes, planBytes, planRecords, reply, sheetResponse, responseBy, responseTo}
-use Rattle.responder.specs.Asked.{asked, Complete, ProgramRefused}
+use Rattle.responder.specs.Refusals.{asked, Complete, ProgramRefused}
 use Rattle.responder.specs.Told.{andLift, liftsAt, TellsPlan, Tells, Told}
 use Rattle.responder.proofs.SizeLaws.{size-lf}
 use Rattle.responder.proofs.MoveLaws.{length-move-bytes}
-use Rattle.responder.proofs.AskedLaws.{head-found, all-yes, refused-response, refusals}
+use Rattle.responder.proofs.RefusalLaws.{head-found, all-yes, refused-response, refusals}
 
 -- ---- records read back
 

@@ -1,6 +1,6 @@
 pub mod Responses
 pub mod Order
-pub mod Asked
+pub mod Refusals
 pub mod Told
 pub mod Answers
 pub mod Bounds

@@ -16,7 +16,7 @@ use Rattle.records.specs.declared.Found.{Found}
 use Rattle.records.specs.declared.Found.the-variants.{Record, Missing}
 use Rattle.sheets.specs.Sheets.{nows, goals}
 use Rattle.responder.specs.Responses.{refusalBytes, responseTo}
-use Rattle.responder.specs.Asked.{Complete, ProgramRefused}
+use Rattle.responder.specs.Refusals.{Complete, ProgramRefused}
 
 -- ---- lifts read back
 

@@ -1,43 +1,41 @@
--- What the program asks: the theorems of `specs/Asked.antt`. Assumes nothing.
-use Prim.Native.Nat.{ℕ, _+_, _*_, _≤_, _<_}
-use mathlib.Core.Path.{_≡_, refl, sym, _∙_, ap, ap₂, subst}
-use mathlib.Core.Logic.{_⊎_, inl, inr, _↔_, Iff·trans}
+-- What the program asks: the theorems of `specs/Refusals.antt`. Assumes nothing.
+use Prim.Native.Nat.{ℕ, _+_, _*_, _≤_}
+use mathlib.Core.Path.{_≡_, refl, sym, _∙_, ap, ap₂}
+use mathlib.Core.Logic.{inl, inr, _↔_, Iff·trans}
 use mathlib.Core.List.{List, [], _∷_, _++_}
 use native.Mathlib.Omega.{arith}
 use lib.ListN.{length, length-replicate}
-use Rattle.blocks.specs.State.{State, most}
-use Rattle.blocks.specs.Position.{Accepted}
-use Rattle.blocks.specs.Loop.{memberᵇ}
+use Rattle.blocks.specs.State.{State}
 use Rattle.blocks.specs.Method.{planOutcome}
-use Rattle.blocks.specs.Question.{Asked, allYes, no′, firstNo, AllYes, FirstNo, numbers, IsMethod, asksMethod, asksSize, asksOutside, asksShared, asksFloating, asksPlan}
+use Rattle.blocks.specs.Question.{allYes, no′, firstNo, FirstNo, asksMethod, asksSize, asksOutside, asksShared, asksFloating, asksPlan}
 use Rattle.blocks.specs.Question.{stateQuestions, planQuestions}
 use Rattle.blocks.proofs.QuestionLaws.{Decides, first-no, decides-append, clash, other-number}
 use Rattle.blocks.proofs.DecidedLaws.{method-decided, state-decides, plan-decided}
 use Rattle.blocks.proofs.AnswerLaws.{plan-decides}
 use Rattle.blocks.proofs.AnsweredLaws.{plan-accepts, never-13}
 use Rattle.records.specs.Marks.{marks, markOf}
-use Rattle.records.specs.Records.{fieldAt, recordAt}
-use Rattle.records.specs.There.{There, AllThere, FirstMissing, Entries}
+use Rattle.records.specs.Records.{recordAt}
+use Rattle.records.specs.There.{There}
 use Rattle.records.specs.declared.Kind.the-variants.{Hd, Nw, Gl}
 use Rattle.records.specs.declared.Found.{Found}
 use Rattle.records.specs.declared.Found.the-variants.{Record, Missing}
 use Rattle.records.proofs.ReadLaws.{found-first, found-second}
-use Rattle.records.proofs.ThereLaws.{found-there, there-found, missing-there, all-there, all-entries}
-use Rattle.sheets.specs.Sheets.{nowsAt, goalsAt, endAt, nows, goals}
+use Rattle.records.proofs.ThereLaws.{found-there, there-found, missing-there, all-entries}
+use Rattle.sheets.specs.Sheets.{nowsAt, goalsAt, nows, goals}
 use Rattle.responder.specs.Responses.{asksNows, asksGoals, asksTail, recordQuestions, lent, sheetQuestions}
 use Rattle.responder.specs.Responses.{refusalBytes, planRecords, reply, sheetResponse, responseBy, responseTo}
 use Rattle.responder.specs.Order.{fourOn, orderedQuestions}
-use Rattle.responder.specs.Asked.{askedBy, asked, Head, ProgramRefused, Begun, Complete, Refused12, Refusals}
+use Rattle.responder.specs.Refusals.{askedBy, asked, Head, ProgramRefused, Begun, Complete, Refused12, Refusals}
 use Rattle.responder.proofs.DecidedLaws.{end-room, middle, middle-decides, sheet-accepts, sheet-refuses, plan-yes}
 use Rattle.responder.proofs.Order.{sheet-order, in-order}
 
 -- ---- the head
 
-module _ (bytes : List ℕ) (n m : ℕ) where
-  head-fields : markOf Hd .fields ≡ 2
-  unfolding markOf marks
-  head-fields = refl
+head-fields : markOf Hd .fields ≡ 2
+unfolding markOf marks
+head-fields = refl
 
+module _ (bytes : List ℕ) (n m : ℕ) where
   found-head : recordAt Hd bytes 0 ≡ Record n m → Head bytes n m
   found-head e = record { there = found-there Hd bytes 0 e; slabs = found-first Hd bytes 0 e; method = found-second Hd bytes 0 e head-fields }
 

@@ -1,5 +1,5 @@
 -- What the program asks of its input, and when it refuses, as sentences about the bytes (document 01, "Questions put to a sheet, in order", with question 12).
--- Statements alone; `proofs/AskedLaws.antt` proves them. Assumes nothing.
+-- Statements alone; `proofs/RefusalLaws.antt` proves them. Assumes nothing.
 use Prim.Native.Nat.{ℕ, _+_, _*_, _≤_, _<_}
 use mathlib.Core.Path.{_≡_}
 use mathlib.Core.Logic.{_↔_}
