@@ -43,11 +43,11 @@ records-decided k n bytes at before =
 
 pub nows-decided : (n : ℕ) (bytes : List ℕ) → Decided (asksNows n bytes)
 unfolding asksNows
-nows-decided n bytes = records-decided Nw n bytes (nowsAt 0) 1
+nows-decided n bytes = records-decided Nw n bytes (nowsAt 0) _
 
 pub goals-decided : (n : ℕ) (bytes : List ℕ) → Decided (asksGoals n bytes)
 unfolding asksGoals
-goals-decided n bytes = records-decided Gl n bytes (goalsAt 0 n) (1 + n)
+goals-decided n bytes = records-decided Gl n bytes (goalsAt 0 n) _
 
 pub tail-decided : (n size : ℕ) → Decided (asksTail n size)
 unfolding asksTail
