@@ -123,7 +123,7 @@ as-no-other k x y at space j d room =
 
 -- ---- what is written are bytes
 
-small-nil : Bytes []
+pub small-nil : Bytes []
 small-nil = record { small = λ i. lit< tt }
 
 small-cons : {a : ℕ} {l : List ℕ} → a < 256 → Bytes l → Bytes (a ∷ l)
@@ -132,6 +132,11 @@ small-cons {a} {l} h w = record { small = each }
     each : (i : ℕ) → getD (a ∷ l) i 0 < 256
     each zero = h
     each (suc i) = w .small i
+
+-- One list behind another.
+pub small-append : (l : List ℕ) {v : List ℕ} → Bytes l → Bytes v → Bytes (l ++ v)
+small-append [] w u = u
+small-append (a ∷ l) w u = small-cons (w .small 0) (small-append l (record { small = λ i. w .small (suc i) }) u)
 
 all-bytes : (k : Kind) (x y : ℕ) → x < 65536 → y < 65536 → Bytes (recordBytes k (x ∷ y ∷ []))
 unfolding recordBytes

@@ -5,6 +5,7 @@ pub mod DecidedLaws
 pub mod PlannedLaws
 pub mod Order
 pub mod RefusalLaws
+pub mod FieldLaws
 pub mod ToldLaws
 pub mod AskLaws
 pub mod AnsweredLaws

@@ -8,7 +8,7 @@ use native.Mathlib.Omega.{arith}
 use lib.Dec.{ltb}
 use lib.ListN.{length, length-append, length-replicate}
 use Rattle.lists.specs.Search.{pick}
-use Rattle.blocks.specs.State.{State}
+use Rattle.blocks.specs.State.{State, most}
 use Rattle.blocks.specs.Move.{_⟶_, Plan}
 use Rattle.blocks.specs.Tests.{changed}
 use Rattle.blocks.specs.Method.{Method, Us, Gn1, Gn2, plan, outcome, numberOf, methodOf, outcomeBy, planOf, planOutcome}
@@ -30,6 +30,8 @@ use Rattle.responder.specs.Refusals.{asked, Complete, ProgramRefused}
 use Rattle.responder.specs.Told.{andLift, liftsAt, TellsPlan, Tells, Told}
 use Rattle.responder.proofs.SizeLaws.{size-lf}
 use Rattle.responder.proofs.MoveLaws.{length-move-bytes}
+use Rattle.responder.proofs.PlannedLaws.{changed-le}
+use Rattle.responder.proofs.FieldLaws.{plan-bytes, refusal-bytes}
 use Rattle.responder.proofs.RefusalLaws.{head-found, all-yes, refused-response, refusals}
 
 -- ---- records read back
@@ -143,10 +145,17 @@ module _ (bytes : List ℕ) (n : ℕ) (by : Method) (same : methodOf (numberOf b
         planned = (λ _. (length p, changed s g, read), λ _. (n, numberOf by, w));
         promised = promised;
         refused = λ k q. (λ r. absurd (clash (sym yes ∙ refusals .refuses bytes k q .1 r)), λ e. absurd (other k q e));
+        small = plan-bytes (length p) (changed s g) p s few less (w .accepted .small) (demand .2 .solves .legal);
       }
     where
       yes : asked bytes ≡ allYes
       yes = refusals .accepts bytes .1 (n, numberOf by, w)
+
+      few : length p ≤ 2 * most
+      few = omega (arith, theorems .plan-fits by s g (w .accepted .problem) p (demand .1), w .accepted .small)
+
+      less : changed s g ≤ most
+      less = omega (arith, changed-le s g, w .accepted .small)
 
       promised : (c d : ℕ) → recordAt Pl answer 0 ≡ Record c d → TellsPlan bytes answer c d
       promised c d e =
@@ -178,6 +187,7 @@ module _ (bytes : List ℕ) (k p : ℕ) (a : asked bytes ≡ no′ k p) where
         planned = (λ c. absurd (clash (sym (refusals .accepts bytes .1 c) ∙ a)), λ c. absurd (no-plan (c .0) (c .1) (c .2)));
         promised = λ c d e. absurd (no-plan c d e);
         refused = λ i j. (to i j, from i j);
+        small = refusal-bytes bytes k p (refusals .refuses bytes k p .0 a);
       }
     where
       to : (i j : ℕ) → ProgramRefused bytes i j → refusalBytes k p ≡ refusalBytes i j

@@ -11,6 +11,7 @@ use Rattle.blocks.specs.Method.{Method, plan, outcome, numberOf}
 use Rattle.blocks.specs.Demands.{Promise}
 use Rattle.records.specs.Marks.{size}
 use Rattle.records.specs.Records.{recordAt}
+use Rattle.records.specs.RoundTrip.{Bytes}
 use Rattle.records.specs.declared.Kind.the-variants.{Pl, Lf}
 use Rattle.records.specs.declared.Found.{Found}
 use Rattle.records.specs.declared.Found.the-variants.{Record, Missing}
@@ -52,6 +53,8 @@ pub record Tells (bytes answer : List ℕ) : Type 0 where
   pub promised : (c d : ℕ) → recordAt Pl answer 0 ≡ Record c d → TellsPlan bytes answer c d
   -- NO exactly with the number and place of the first "no".
   pub refused : (k p : ℕ) → ProgramRefused bytes k p ↔ (answer ≡ refusalBytes k p)
+  -- No field is too large for its two bytes.
+  pub small : Bytes answer
 
 -- ---- the theorem
 
