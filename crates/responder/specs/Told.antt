@@ -45,6 +45,7 @@ pub record TellsPlan (bytes answer : List ℕ) (c d : ℕ) : Type 0 where
   pub given : outcome method (nows bytes 0 n) (goals bytes 0 n) ≡ plan (liftsAt answer (size Pl) c)
   pub promise : Promise method (nows bytes 0 n) (goals bytes 0 n) (liftsAt answer (size Pl) c)
 
+-- Of an answer of any kind.
 pub record Tells (bytes answer : List ℕ) : Type 0 where
   -- "It writes PL and the LF records, or one NO."
   pub either : ((c : ℕ) × (d : ℕ) × (recordAt Pl answer 0 ≡ Record c d)) ⊎ ((k : ℕ) × (p : ℕ) × (answer ≡ refusalBytes k p))
@@ -56,7 +57,7 @@ pub record Tells (bytes answer : List ℕ) : Type 0 where
   -- No field is too large for its two bytes.
   pub small : Bytes answer
 
--- ---- the theorem
+-- ---- the theorem: the answer to every input tells this
 
 abbrev pub Told : Type 0
 Told = (bytes : List ℕ) → Tells bytes (responseTo bytes)
