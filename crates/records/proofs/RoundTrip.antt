@@ -123,7 +123,7 @@ as-no-other k x y at space j d room =
 
 -- ---- what is written are bytes
 
-small-nil : Bytes []
+pub small-nil : Bytes []
 small-nil = record { small = λ i. lit< tt }
 
 small-cons : {a : ℕ} {l : List ℕ} → a < 256 → Bytes l → Bytes (a ∷ l)
@@ -132,6 +132,11 @@ small-cons {a} {l} h w = record { small = each }
     each : (i : ℕ) → getD (a ∷ l) i 0 < 256
     each zero = h
     each (suc i) = w .small i
+
+-- One list behind another.
+pub small-append : (l : List ℕ) {v : List ℕ} → Bytes l → Bytes v → Bytes (l ++ v)
+small-append [] w u = u
+small-append (a ∷ l) w u = small-cons (w .small 0) (small-append l (record { small = λ i. w .small (suc i) }) u)
 
 all-bytes : (k : Kind) (x y : ℕ) → x < 65536 → y < 65536 → Bytes (recordBytes k (x ∷ y ∷ []))
 unfolding recordBytes
@@ -195,7 +200,7 @@ round-trip k x y at space = record {
 -- ---- entries one after another
 
 -- A record that stands between others is read.
-read-between : (k : Kind) (x y : ℕ) (front rest : List ℕ) → recordAt k (front ++ (recordBytes k (x ∷ y ∷ []) ++ rest)) (length front) ≡ Record x (pick (ltb 1 (markOf k .fields)) y)
+pub read-between : (k : Kind) (x y : ℕ) (front rest : List ℕ) → recordAt k (front ++ (recordBytes k (x ∷ y ∷ []) ++ rest)) (length front) ≡ Record x (pick (ltb 1 (markOf k .fields)) y)
 read-between k x y front rest =
     ap (λ (l : List ℕ). recordAt k l (length front)) (sym (overwrite-between front (recordBytes k (x ∷ y ∷ [])) rest))
     ∙ read-back k x y (length front) (front ++ (recordBytes k (x ∷ y ∷ []) ++ rest)) (simp (length-append, length-record) (omega arith))

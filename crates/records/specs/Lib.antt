@@ -1,4 +1,5 @@
 pub mod Marks
 pub mod Records
+pub mod There
 pub mod RoundTrip
 pub mod Example

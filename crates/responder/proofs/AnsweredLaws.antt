@@ -11,11 +11,14 @@ use Rattle.blocks.specs.Question.{no′, firstNo, AllYes, FirstNo, IsMethod, as
 use Rattle.blocks.specs.Method.{planOutcome}
 use Rattle.lists.proofs.ReflectLaws.{Reflects, holds, fails, same?}
 use Rattle.records.specs.Records.{recordAt}
-use Rattle.records.specs.declared.Kind.the-variants.{Hd}
+use Rattle.records.specs.There.{AllThere}
+use Rattle.records.specs.declared.Kind.the-variants.{Hd, Nw, Gl}
 use Rattle.records.specs.declared.Found.the-variants.{Record, Missing}
+use Rattle.records.proofs.ReadLaws.{found-room}
+use Rattle.records.proofs.ThereLaws.{all-there, first-missing}
 use Rattle.sheets.specs.declared.Sheet.{Sheet}
 use Rattle.sheets.specs.declared.Sheet.the-variants.{Headless, Long, Broken, Whole}
-use Rattle.sheets.specs.Sheets.{nows, goals}
+use Rattle.sheets.specs.Sheets.{nowsAt, goalsAt, endAt, nows, goals}
 use Rattle.sheets.specs.Reads.{ReadsSheet}
 use Rattle.sheets.specs.Cases.{IsLong, NowMissing, GoalMissing, IsBroken, IsWhole}
 use Rattle.sheets.proofs.SheetLaws as read
@@ -26,7 +29,7 @@ use Rattle.responder.specs.Responses.{asksNows, asksGoals, asksTail, rec
 use Rattle.responder.specs.Responses.{refusalBytes, planRecords, reply, sheetResponse, responseBy, responseTo}
 use Rattle.responder.specs.Answers.{refusedAs, Askable, AsksBy, Asks, replyOf, Writable}
 use Rattle.responder.proofs.BehindLaws.{once, without-yes, without-room}
-use Rattle.responder.proofs.DecidedLaws.{method-reflects, middle, middle-decides, sheet-refuses}
+use Rattle.responder.proofs.DecidedLaws.{end-room, method-reflects, middle, middle-decides, sheet-refuses}
 use Rattle.responder.proofs.PlannedLaws.{made-yes, made-records, made-writable}
 
 -- The records of an answer are the definition's, and they can be written.
@@ -75,8 +78,9 @@ module _ {bytes : List ℕ} {m : ℕ} {r : Planned} (space : List ℕ) where
     where
       by : NowMissing bytes 0 (w .n) p ⊎ GoalMissing bytes 0 (w .n) p
           → FirstNo (recordQuestions (w .n) bytes ++ planQuestions m (nows bytes 0 (w .n)) (goals bytes 0 (w .n)) (lent (w .n))) 12 p
-      by (inl f) = inl (refl, (f .place, λ e. omega (arith, f .few)))
-      by (inr f) = inr (f .nows-there, inl (refl, (f .place, λ e. omega (arith, f .few))))
+      by (inl f) = inl (refl, (_, first-missing Nw bytes (nowsAt 0) (w .n) (f .few), f .place))
+      by (inr f) =
+          inr (all-there Nw bytes (nowsAt 0) (w .n) .0 (f .nows-there), inl (refl, (_, first-missing Gl bytes (goalsAt 0 (w .n)) (w .n) (f .few), f .place)))
 
 -- ---- a whole sheet
 
@@ -87,18 +91,27 @@ module _ {bytes : List ℕ} {n m e : ℕ} (w : IsWhole bytes 0 n m e) where
   abbrev g : State
   g = goals bytes 0 n
 
+  nows-yes : AllThere Nw bytes (nowsAt 0) n
+  nows-yes = all-there Nw bytes (nowsAt 0) n .0 (w .nows-there)
+
+  goals-yes : AllThere Gl bytes (goalsAt 0 n) n
+  goals-yes = all-there Gl bytes (goalsAt 0 n) n .0 (w .goals-there)
+
+  inside : endAt 0 n ≤ length bytes
+  inside = end-room n bytes (found-room Hd bytes 0 (w .head)) nows-yes goals-yes
+
   tail-way : (space : List ℕ) {r : Planned} → length bytes ≢ e → r ≡ refusedAs m 12 (2 * n + 1) → Answered bytes r space
   unfolding sheetQuestions asksMethod asksSize asksNows asksGoals asksTail
   tail-way space ne =
       behind-way bytes (w .head) space 12 (2 * n + 1)
-      (λ i. inr (i, inr (w .small, inr (w .nows-there, inr (w .goals-there, inl (refl, (refl, λ f. ne (f ∙ sym (w .end)))))))))
+      (λ i. inr (i, inr (w .small, inr (nows-yes, inr (goals-yes, inl (refl, (refl, omega (arith, ne, w .end, inside))))))))
 
   module _ (exact : length bytes ≡ e) (space : List ℕ) (room : 4 * most ≤ length space) where
     -- the questions of the records have a yes, so planning's are asked;
     then-plan : firstNo (sheetQuestions n m bytes) ≡ firstNo (planQuestions m s g (lent n))
     unfolding sheetQuestions planQuestions asksSize asksNows asksGoals asksTail
     then-plan =
-        let rows : AllYes (middle n bytes) = (w .small, (w .nows-there, (w .goals-there, (exact ∙ w .end, tt)))) in
+        let rows : AllYes (middle n bytes) = (w .small, (nows-yes, (goals-yes, (omega (arith, exact, w .end), tt)))) in
         without-yes (asksMethod m ∷ []) (middle n bytes) (planQuestions m s g (lent n)) (middle-decides n bytes) rows
         ∙ once (asksMethod m) (problemQuestions s g ++ (asksRoom (4 * length s) (lent n) ∷ asksPlan (planOutcome m s g) ∷ []))
 

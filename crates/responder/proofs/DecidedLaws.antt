@@ -1,35 +1,66 @@
 -- The reflection of each row of question 12, and what the questions put to a sheet come to. Assumes nothing.
-use Prim.Native.Nat.{ℕ}
-use mathlib.Core.Path.{_≡_, sym}
+use Prim.Native.Nat.{ℕ, _+_, _≤_, _<_}
+use mathlib.Core.Path.{_≡_, sym, _∙_, ap}
 use mathlib.Core.Logic.{_↔_}
-use mathlib.Core.Bool.{Bool}
 use mathlib.Core.List.{List, _∷_}
+use native.Mathlib.Omega.{arith}
 use lib.ListN.{length}
 use Rattle.blocks.specs.Question.{Question, allYes, no′, firstNo, AllYes, FirstNo, IsMethod, isMethod, asksMethod, asksSize, planQuestions}
 use Rattle.blocks.specs.Method.{methodOf}
-use Rattle.lists.proofs.ReflectLaws.{Reflects, eqb-reflects}
+use Rattle.lists.proofs.ReflectLaws.{Reflects, reflects-iff, eqb-reflects, leb-reflects}
 use Rattle.blocks.proofs.QuestionLaws.{Decided, Decides, first-no, decides-append}
 use Rattle.blocks.proofs.DecidedLaws.{method-decided, size-decided}
 use Rattle.blocks.proofs.AnswerLaws.{plan-decides}
-use Rattle.sheets.specs.Sheets.{endAt, nows, goals}
-use Rattle.responder.specs.Responses.{asks12, asksNows, asksGoals, asksTail, recordQuestions, lent, sheetQuestions}
+use Rattle.records.specs.Records.{entriesAt}
+use Rattle.records.specs.There.{AllThere, FirstMissing}
+use Rattle.records.specs.declared.Kind.{Kind}
+use Rattle.records.specs.declared.Kind.the-variants.{Nw, Gl}
+use Rattle.records.proofs.EntryLaws.{length-entries}
+use Rattle.records.proofs.ThereLaws.{all-room, all-there, first-missing, missing-unique, missing-one}
+use Rattle.sheets.specs.Sheets.{nowsAt, goalsAt, endAt, nows, goals}
+use Rattle.responder.specs.Responses.{asksRecords, asksNows, asksGoals, asksTail, recordQuestions, lent, sheetQuestions}
 
 -- ---- the rows
 
-twelve-decided : {P : Type 0} {t : Bool} {at : ℕ} → Reflects P t → Decided (asks12 P t at)
-twelve-decided r = record { decides = r; faults = λ p. (λ f. (f .1, sym (f .0)), λ f. (sym (f .1), f .0)) }
+records-decided : (k : Kind) (n : ℕ) (bytes : List ℕ) (at before : ℕ) → Decided (asksRecords k n bytes at before)
+records-decided k n bytes at before =
+    record {
+      decides = reflects-iff (all-there k bytes at n .0) (all-there k bytes at n .1) (eqb-reflects (length (entriesAt k bytes at n)) n);
+      faults = λ p. (into p, out p);
+    }
+  where
+    count : ℕ
+    count = length (entriesAt k bytes at n)
 
-pub nows-decided : (n : ℕ) (s : List ℕ) → Decided (asksNows n s)
+    into : (p : ℕ) → (i : ℕ) × FirstMissing k bytes at n i × (p ≡ before + i) → (¬ AllThere k bytes at n) × (before + count ≡ p)
+    into p (i, w, e) = (missing-one k bytes at n w, ap (λ c. before + c) (missing-unique k bytes at n w) ∙ sym e)
+
+    out : (p : ℕ) → (¬ AllThere k bytes at n) × (before + count ≡ p) → (i : ℕ) × FirstMissing k bytes at n i × (p ≡ before + i)
+    out p (m, e) =
+        let short : ¬ (count ≡ n) = λ f. m (all-there k bytes at n .0 f) in
+        let few : count < n = omega (arith, length-entries k bytes at n, short) in
+        (count, first-missing k bytes at n few, sym e)
+
+pub nows-decided : (n : ℕ) (bytes : List ℕ) → Decided (asksNows n bytes)
 unfolding asksNows
-nows-decided n s = twelve-decided (eqb-reflects (length s) n)
+nows-decided n bytes = records-decided Nw n bytes (nowsAt 0) _
 
-pub goals-decided : (n : ℕ) (g : List ℕ) → Decided (asksGoals n g)
+pub goals-decided : (n : ℕ) (bytes : List ℕ) → Decided (asksGoals n bytes)
 unfolding asksGoals
-goals-decided n g = twelve-decided (eqb-reflects (length g) n)
+goals-decided n bytes = records-decided Gl n bytes (goalsAt 0 n) _
 
 pub tail-decided : (n size : ℕ) → Decided (asksTail n size)
 unfolding asksTail
-tail-decided n size = twelve-decided (eqb-reflects size (endAt 0 n))
+tail-decided n size =
+    record {
+      decides = leb-reflects size (endAt 0 n);
+      faults = λ p. (λ f. (λ l. omega (arith, l, f .1), sym (f .0)), λ f. (sym (f .1), omega (arith, f .0)));
+    }
+
+-- Behind a head that is there, records that are all there end within the bytes.
+pub end-room : (n : ℕ) (bytes : List ℕ) → nowsAt 0 ≤ length bytes → AllThere Nw bytes (nowsAt 0) n → AllThere Gl bytes (goalsAt 0 n) n
+    → endAt 0 n ≤ length bytes
+end-room n bytes head nows goals = all-room Gl bytes (goalsAt 0 n) n (all-room Nw bytes (nowsAt 0) n head nows) goals
 
 pub method-reflects : (m : ℕ) → Reflects (IsMethod m) (isMethod (methodOf m))
 unfolding asksMethod
@@ -49,7 +80,7 @@ module _ (n : ℕ) (bytes : List ℕ) where
   middle = asksSize n ∷ recordQuestions n bytes
 
   pub middle-decides : Decides middle
-  middle-decides = (size-decided n, λ _. (nows-decided n s, λ _. (goals-decided n g, λ _. (tail-decided n (length bytes), λ _. tt))))
+  middle-decides = (size-decided n, λ _. (nows-decided n bytes, λ _. (goals-decided n bytes, λ _. (tail-decided n (length bytes), λ _. tt))))
 
 module _ (n m : ℕ) (bytes : List ℕ) where
   abbrev asked : List Question

@@ -1,13 +1,18 @@
 -- The first 32,007 bytes decide the answer: every record that is asked for ends before them, and a longer input has a tail. Assumes nothing.
-use Prim.Native.Nat.{ℕ, _≤_, _<_}
-use mathlib.Core.Path.{_≡_, refl, _∙_, ap}
-use mathlib.Core.Logic.{_⊎_, inl, inr, _≢_}
-use mathlib.Core.List.{List, _∷_}
+use Prim.Native.Nat.{ℕ, _+_, _*_, _≤_, _<_}
+use mathlib.Core.Path.{_≡_, refl, sym, _∙_, ap, ap₂}
+use mathlib.Core.Logic.{_⊎_, inl, inr}
+use mathlib.Core.Bool.{Bool, false, cond}
+use mathlib.Core.List.{List}
 use native.Mathlib.Omega.{arith}
+use borrow.Author.Tests.{lt-leb}
+use lib.Dec.{eqb, leb}
 use lib.ListN.{length, take, length-take}
 use lib.Seq.{take-all}
-use Rattle.blocks.specs.Question.{Question, Asked, allYes, no′, firstNo, FirstNo, asksMethod, asksSize, planQuestions}
-use Rattle.lists.proofs.ReflectLaws.{decided, leb-reflects}
+use Rattle.blocks.specs.State.{most}
+use Rattle.blocks.specs.Method.{methodOf}
+use Rattle.blocks.specs.Question.{Asked, allYes, no′, firstNo, isMethod, asksMethod, asksSize, planQuestions}
+use Rattle.lists.proofs.ReflectLaws.{Reflects, holds, fails, decided, leb-reflects}
 use Rattle.records.specs.Records.{recordAt}
 use Rattle.records.specs.declared.Kind.the-variants.{Hd, Nw, Gl}
 use Rattle.records.specs.declared.Found.{Found}
@@ -18,22 +23,7 @@ use Rattle.responder.specs.Responses.{asksNows, asksGoals, asksTail, len
 use Rattle.responder.specs.Bounds.{enough, Enough}
 use Rattle.responder.proofs.SizeLaws.{enough-is}
 use Rattle.responder.proofs.CutLaws.{same-record, same-entries}
-use Rattle.responder.proofs.DecidedLaws.{sheet-accepts, sheet-refuses}
-
--- Whatever an input of more bytes says, its first "no" is the same with the others cut off.
-
--- the questions behind question 2, by the entries and the number of bytes
-abbrev behind : ℕ → ℕ → List ℕ → List ℕ → ℕ → List Question
-behind n m s g bytes = asksNows n s ∷ asksGoals n g ∷ asksTail n bytes ∷ planQuestions m s g (lent n)
-
--- of two numbers of bytes that both have a tail
-tail-same : (n m : ℕ) (s g : List ℕ) {i j : ℕ} (k p : ℕ) → i ≢ endAt 0 n → j ≢ endAt 0 n
-    → FirstNo (behind n m s g i) k p → FirstNo (behind n m s g j) k p
-unfolding asksNows asksGoals asksTail
-tail-same n m s g k p a b (inl f) = inl f
-tail-same n m s g k p a b (inr (e, inl f)) = inr (e, inl f)
-tail-same n m s g k p a b (inr (e, inr (h, inl f))) = inr (e, inr (h, inl (f .0, (f .1 .0, b))))
-tail-same n m s g k p a b (inr (e, inr (h, inr (t, f)))) = absurd (a t)
+use Rattle.responder.proofs.DecidedLaws.{sheet-accepts}
 
 module _ (n m : ℕ) (bytes : List ℕ) (more : enough < length bytes) where
   abbrev cut : List ℕ
@@ -42,32 +32,43 @@ module _ (n m : ℕ) (bytes : List ℕ) (more : enough < length bytes) where
   cut-size : length cut ≡ enough
   cut-size = omega (arith, length-take enough bytes)
 
-  same-no : (k p : ℕ) → FirstNo (sheetQuestions n m bytes) k p → FirstNo (sheetQuestions n m cut) k p
-  unfolding sheetQuestions asksMethod asksSize
-  same-no k p (inl f) = inl f
-  same-no k p (inr (i, inl f)) = inr (i, inl f)
-  same-no k p (inr (i, inr (small, f))) = inr (i, inr (small, here))
+  -- what is asked behind question 2, by the entries and the test of a tail
+  abbrev behind : List ℕ → List ℕ → Bool → Asked
+  behind s g t =
+      cond
+      (eqb (length s) n)
+      (cond (eqb (length g) n) (cond t (firstNo (planQuestions m s g (lent n))) (no′ 12 (2 * n + 1))) (no′ 12 (1 + n + length g)))
+      (no′ 12 (1 + length s))
+
+  -- Whatever an input of more bytes says, its first "no" is the same with the others cut off.
+  same-asked : firstNo (sheetQuestions n m cut) ≡ firstNo (sheetQuestions n m bytes)
+  unfolding sheetQuestions asksMethod asksSize asksNows asksGoals asksTail
+  same-asked = by (leb-reflects n most)
     where
-      s : List ℕ
-      s = nows bytes 0 n
+      asked : List ℕ → Asked
+      asked l = behind (nows l 0 n) (goals l 0 n) (leb (length l) (endAt 0 n))
 
-      g : List ℕ
-      g = goals bytes 0 n
+      same : n ≤ most → asked cut ≡ asked bytes
+      same small =
+          ap₂ (λ s g. behind s g (leb (length cut) (endAt 0 n))) nows-same goals-same
+          ∙ ap (behind (nows bytes 0 n) (goals bytes 0 n)) (tail cut (omega (arith, cut-size, shorter)) ∙ sym (tail bytes (omega (arith, more, shorter))))
+        where
+          nows-same : nows cut 0 n ≡ nows bytes 0 n
+          nows-same = same-entries enough bytes Nw n (nowsAt 0) (omega (arith, goals-at 0 n, enough-is, small))
 
-      nows-same : nows cut 0 n ≡ nows bytes 0 n
-      nows-same = same-entries enough bytes Nw n (nowsAt 0) (omega (arith, goals-at 0 n, enough-is, small))
+          goals-same : goals cut 0 n ≡ goals bytes 0 n
+          goals-same = same-entries enough bytes Gl n (goalsAt 0 n) (omega (arith, end-at 0 n, enough-is, small))
 
-      goals-same : goals cut 0 n ≡ goals bytes 0 n
-      goals-same = same-entries enough bytes Gl n (goalsAt 0 n) (omega (arith, end-at 0 n, enough-is, small))
+          shorter : endAt 0 n < enough
+          shorter = omega (arith, end-at 0 n, enough-is, small)
 
-      shorter : endAt 0 n < enough
-      shorter = omega (arith, end-at 0 n, enough-is, small)
+          tail : (l : List ℕ) → endAt 0 n < length l → leb (length l) (endAt 0 n) ≡ false
+          tail l h = lt-leb (length l) (endAt 0 n) h
 
-      after : FirstNo (behind n m s g (length cut)) k p
-      after = tail-same n m s g k p (λ e. omega (arith, e, more, shorter)) (λ e. omega (arith, e, cut-size, shorter)) f
-
-      here : FirstNo (behind n m (nows cut 0 n) (goals cut 0 n) (length cut)) k p
-      here = rw (nows-same, goals-same) after
+      by : {t : Bool} → Reflects (n ≤ most) t
+          → cond (isMethod (methodOf m)) (cond t (asked cut) (no′ 2 0)) (no′ 1 0) ≡ cond (isMethod (methodOf m)) (cond t (asked bytes) (no′ 2 0)) (no′ 1 0)
+      by (holds small) = ap (λ a. cond (isMethod (methodOf m)) a (no′ 1 0)) (same small)
+      by (fails _) = refl
 
   -- a tail is refused
   tailed : firstNo (sheetQuestions n m bytes) ≡ allYes → ⊥
@@ -80,9 +81,7 @@ module _ (n m : ℕ) (bytes : List ℕ) (more : enough < length bytes) where
     where
       by : (a : Asked) → firstNo (sheetQuestions n m bytes) ≡ a → sheetResponse n m cut ≡ reply a (planRecords m (nows bytes 0 n) (goals bytes 0 n) (lent n))
       by allYes e = absurd (tailed e)
-      by (no′ k p) e =
-          let again : firstNo (sheetQuestions n m cut) ≡ no′ k p = sheet-refuses n m cut k p .1 (same-no k p (sheet-refuses n m bytes k p .0 e)) in
-          ap (λ a. reply a (planRecords m (nows cut 0 n) (goals cut 0 n) (lent n))) again
+      by (no′ k p) e = ap (λ a. reply a (planRecords m (nows cut 0 n) (goals cut 0 n) (lent n))) (same-asked ∙ e)
 
 pub input-bound : Enough
 unfolding responseTo

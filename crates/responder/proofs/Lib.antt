@@ -3,11 +3,14 @@ pub mod MoveLaws
 pub mod BehindLaws
 pub mod DecidedLaws
 pub mod PlannedLaws
+pub mod Order
+pub mod RefusalLaws
+pub mod FieldLaws
+pub mod ToldLaws
 pub mod AskLaws
 pub mod AnsweredLaws
 pub mod ReplyLaws
 pub mod CutLaws
-pub mod Order
 pub mod InputBound
 pub mod AnswerBound
 pub mod Example

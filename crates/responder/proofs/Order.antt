@@ -10,7 +10,9 @@ use Rattle.blocks.specs.Question.{asksPlan, stateQuestions, problemQuestions, p
 use Rattle.blocks.specs.Method.{planOutcome}
 use Rattle.blocks.proofs.QuestionLaws.{first-no}
 use Rattle.blocks.proofs.DecidedLaws.{method-decided, size-decided, same-decided}
-use Rattle.sheets.specs.Sheets.{nows, goals}
+use Rattle.records.specs.declared.Kind.the-variants.{Nw, Gl}
+use Rattle.records.proofs.ThereLaws.{all-there}
+use Rattle.sheets.specs.Sheets.{nowsAt, goalsAt, nows, goals}
 use Rattle.responder.specs.Responses.{asksNows, asksGoals, asksTail, lent, sheetQuestions}
 use Rattle.responder.specs.Order.{fourOn, orderedQuestions, InOrder}
 use Rattle.responder.proofs.BehindLaws.{same-behind, without-yes, without-room}
@@ -53,5 +55,5 @@ in-order n m bytes = same-behind before (planQuestions m s g (lent n)) (fourOn m
     then-four e =
         let y = first-no before (method-decided m, λ _. middle-decides n bytes) allYes .0 e in
         let small : n ≤ most = y .1 .0 in
-        let long : length s ≡ n = y .1 .1 .0 in
-        four-on m s g (lent n) (y .0) (omega arith) (y .1 .1 .1 .0 ∙ sym long) (omega (arith, length-replicate {A = ℕ} (4 * n) 0))
+        let long : length s ≡ n = all-there Nw bytes (nowsAt 0) n .1 (y .1 .1 .0) in
+        four-on m s g (lent n) (y .0) (omega arith) (all-there Gl bytes (goalsAt 0 n) n .1 (y .1 .1 .1 .0) ∙ sym long) (omega (arith, length-replicate {A = ℕ} (4 * n) 0))

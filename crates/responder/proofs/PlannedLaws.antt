@@ -41,7 +41,7 @@ short-plan m s g q = by (methodOf m)
 pub lifts-le : (m : ℕ) (s g : State) (space : List ℕ) → firstNo (planQuestions m s g space) ≡ allYes → length (planOf (planOutcome m s g)) ≤ 2 * most
 lifts-le m s g space all = let a = plan-accepts m s g space .0 all .1 in omega (arith, short-plan m s g (a .problem), a .small)
 
-changed-le : (s g : State) → changed s g ≤ length s
+pub changed-le : (s g : State) → changed s g ≤ length s
 unfolding changed
 changed-le s g = count-le _ (length s)
 

@@ -12,14 +12,16 @@ use Rattle.records.specs.Marks.{size}
 use Rattle.records.specs.Records.{recordBytes, PutRecord}
 use Rattle.records.specs.declared.Kind.{Kind}
 use Rattle.records.specs.declared.Kind.the-variants.{Pl, Lf, No}
-use Rattle.lists.proofs.WriteLaws.{overwrite-next}
+use Rattle.lists.proofs.WriteLaws.{overwrite-front, overwrite-next}
 use Rattle.records.proofs.WriteLaws.{length-record}
 use Rattle.planner.specs.declared.Planned.{Planned}
 use Rattle.planner.specs.declared.Planned.the-variants.{Refused, Made}
-use Rattle.responder.specs.Responses.{moveBytes}
+use Rattle.responder.specs.Responses.{moveBytes, responseTo}
+use Rattle.responder.specs.Told.{Tells}
 use Rattle.responder.specs.Answers.{Wrote, Roomy, Responds, replyOf, Writable, MovesFit, PutMoves}
 use Rattle.responder.proofs.SizeLaws.{size-pl, size-lf, size-no, longest-is}
 use Rattle.responder.proofs.AnsweredLaws.{Answered}
+use Rattle.responder.proofs.ToldLaws.{told}
 
 -- ---- one record at the front
 
@@ -80,17 +82,31 @@ module _ {a : Planned} {c d : ℕ} {pairs : List ℕ} (w : Writable a pairs) (e 
 inside : {bytes out : List ℕ} {r : ℕ} {out′ : List ℕ} → Wrote bytes out r out′ → r ≤ length out′
 inside {bytes} {out} w = omega (arith, w .counted, ap length (w .written), length-append bytes (drop (length bytes) out))
 
+-- what was written is at the front
+front : {bytes out : List ℕ} {r : ℕ} {out′ : List ℕ} → Wrote bytes out r out′ → take r out′ ≡ bytes
+front {bytes} {out} w = ap₂ take (w .counted) (w .written) ∙ overwrite-front bytes out
+
 pub cramped-way : (bytes : List ℕ) {out : List ℕ} → length out < 6 + 12 * most → Responds bytes out 0 out
-cramped-way bytes h = record { answers = λ l. absurd (omega (arith, l, longest-is)); cramped = λ _. (refl, refl); within = (omega arith, refl) }
+cramped-way bytes h =
+    record {
+      answers = λ l. absurd (omega (arith, l, longest-is));
+      tells = λ l. absurd (omega (arith, l, longest-is));
+      cramped = λ _. (refl, refl);
+      within = (omega arith, refl);
+    }
 
 pub roomy : {out : List ℕ} → 6 + 12 * most ≤ length out → Roomy out
 roomy h = record { room = omega (arith, h, longest-is) }
 
 pub written-way : {bytes : List ℕ} {a : Planned} {space out : List ℕ} {r : ℕ} {out′ : List ℕ} → 6 + 12 * most ≤ length out → Answered bytes a space
     → Wrote (replyOf a space) out r out′ → Responds bytes out r out′
-written-way {out = out} {r} {out′} room w v =
+written-way {bytes} {out = out} {r} {out′} room w v =
     record {
-      answers = λ _. subst (λ l. Wrote l out r out′) (w .same) v;
+      answers = λ _. all;
+      tells = λ _. subst (Tells bytes) (sym (front all)) (told bytes);
       cramped = λ l. absurd (omega (arith, l, room, longest-is));
       within = (inside v, sym (length-take-le _ _ (inside v)));
     }
+  where
+    all : Wrote (responseTo bytes) out r out′
+    all = subst (λ l. Wrote l out r out′) (w .same) v

@@ -18,6 +18,7 @@ use Rattle.planner.specs.declared.Planned.the-variants.{Refused, Made}
 use Rattle.sheets.specs.declared.Sheet.{Sheet}
 use Rattle.sheets.specs.declared.Sheet.the-variants.{Headless, Long, Broken, Whole}
 use Rattle.responder.specs.Responses.{refusalBytes, moveBytes, planBytes, responseTo}
+use Rattle.responder.specs.Told.{Tells}
 
 -- The longest answer: PL and the LF records of two lifts for each slab.
 abbrev pub longest : ℕ
@@ -35,6 +36,8 @@ pub record Roomy (out : List ℕ) : Type 0 where
 -- The program: its answer in full, or nothing at all where there is no room for the longest one.
 pub record Responds (bytes out : List ℕ) (r : ℕ) (out′ : List ℕ) : Type 0 where
   pub answers : longest ≤ length out → Wrote (responseTo bytes) out r out′
+  -- demand 3 of the records that are read back, and the refusals in plain sentences
+  pub tells : longest ≤ length out → Tells bytes (take r out′)
   pub cramped : length out < longest → (r ≡ 0) × (out′ ≡ out)
   -- the second part follows from the first: a caller that lends the front of `out` on needs no proof
   pub within : (r ≤ length out′) × (r ≡ length (take r out′))

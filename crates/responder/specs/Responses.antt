@@ -1,40 +1,56 @@
 -- What the planning program answers, bytes to bytes (document 01, "Records of the program" and question 12). Assumes nothing.
-use Prim.Native.Nat.{ℕ, _+_, _*_}
+use Prim.Native.Nat.{ℕ, _+_, _*_, _≤_, _<_}
 use mathlib.Core.Path.{_≡_}
-use mathlib.Core.Bool.{Bool}
 use mathlib.Core.List.{List, [], _∷_, _++_}
-use lib.Dec.{eqb}
+use lib.Dec.{eqb, leb}
 use lib.ListN.{length, replicate}
 use Rattle.blocks.specs.State.{State}
 use Rattle.blocks.specs.Move.{_⟶_, Plan}
 use Rattle.blocks.specs.Question.{Question, Asked, allYes, no′, firstNo, asksMethod, asksSize, planQuestions}
 use Rattle.blocks.specs.Method.{planOf, planOutcome}
 use Rattle.blocks.specs.Answer.{planAnswer}
-use Rattle.records.specs.Records.{recordAt, recordBytes}
-use Rattle.records.specs.declared.Kind.the-variants.{Hd, Pl, Lf, No}
+use Rattle.records.specs.Records.{recordAt, entriesAt, recordBytes}
+use Rattle.records.specs.There.{AllThere, FirstMissing}
+use Rattle.records.specs.declared.Kind.{Kind}
+use Rattle.records.specs.declared.Kind.the-variants.{Hd, Nw, Gl, Pl, Lf, No}
 use Rattle.records.specs.declared.Found.{Found}
 use Rattle.records.specs.declared.Found.the-variants.{Record, Missing}
-use Rattle.sheets.specs.Sheets.{endAt, nows, goals}
+use Rattle.sheets.specs.Sheets.{nowsAt, goalsAt, endAt, nows, goals}
 
 -- ---- the questions after the head's: "then 1 and 2 are asked; then 12 of the other records in order; then 4 on."
 
--- Question 12, whose "no" names one place: "are all bytes of the record there, with its own mark, and nothing after the last record?"
-abbrev pub asks12 : Type 0 → Bool → ℕ → Question
-asks12 P t at = record { number = 12; property = P; fault = λ p. (p ≡ at) × (¬ P); test = t; place = at }
+-- Question 12, of n records of a kind from a place on: "are all bytes of the record there, with its own mark"? "Place: the records before it", which are
+-- those before the place and the i behind it that are there. What computes goes by the entries of those that are there.
+abbrev pub asksRecords : Kind → ℕ → List ℕ → ℕ → ℕ → Question
+asksRecords k n bytes at before =
+    record {
+      number = 12;
+      property = AllThere k bytes at n;
+      fault = λ p. (i : ℕ) × FirstMissing k bytes at n i × (p ≡ before + i);
+      test = eqb (length (entriesAt k bytes at n)) n;
+      place = before + length (entriesAt k bytes at n);
+    }
 
--- Of the n NW records, and then of the n GL records, by the entries of those that are there. "Place: the records before it".
+-- Of the n NW records behind the head, and of the n GL records behind these.
 unfoldable pub asksNows : ℕ → List ℕ → Question
-asksNows n s = asks12 (length s ≡ n) (eqb (length s) n) (1 + length s)
+asksNows n bytes = asksRecords Nw n bytes (nowsAt 0) 1
 
 unfoldable pub asksGoals : ℕ → List ℕ → Question
-asksGoals n g = asks12 (length g ≡ n) (eqb (length g) n) (1 + n + length g)
+asksGoals n bytes = asksRecords Gl n bytes (goalsAt 0 n) (1 + n)
 
--- Of a tail, by the number of bytes: "or 2 × n + 1 for a tail."
+-- Of a tail, by the number of bytes: "and nothing after the last record?" "or 2 × n + 1 for a tail."
 unfoldable pub asksTail : ℕ → ℕ → Question
-asksTail n size = asks12 (size ≡ endAt 0 n) (eqb size (endAt 0 n)) (2 * n + 1)
+asksTail n size =
+    record {
+      number = 12;
+      property = size ≤ endAt 0 n;
+      fault = λ p. (p ≡ 2 * n + 1) × (endAt 0 n < size);
+      test = leb size (endAt 0 n);
+      place = 2 * n + 1;
+    }
 
 abbrev pub recordQuestions : ℕ → List ℕ → List Question
-recordQuestions n bytes = asksNows n (nows bytes 0 n) ∷ asksGoals n (goals bytes 0 n) ∷ asksTail n (length bytes) ∷ []
+recordQuestions n bytes = asksNows n bytes ∷ asksGoals n bytes ∷ asksTail n (length bytes) ∷ []
 
 -- A space of 4 × n numbers, which planning needs: by then its questions 1, 2, 3 and 10 have a yes, so it asks 4 on (`InOrder`).
 abbrev pub lent : ℕ → List ℕ

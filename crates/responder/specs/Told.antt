@@ -1,0 +1,63 @@
+-- What an answer tells, read back from its bytes: demand 3 of the records that the program writes. Statements alone; `proofs/ToldLaws.antt` proves them.
+-- Assumes nothing.
+use Prim.Native.Nat.{ℕ, zero, suc, _+_, _*_}
+use mathlib.Core.Path.{_≡_}
+use mathlib.Core.Logic.{_⊎_, _↔_}
+use mathlib.Core.List.{List, [], _∷_}
+use lib.ListN.{length}
+use Rattle.blocks.specs.Move.{_⟶_, Plan}
+use Rattle.blocks.specs.Tests.{changed}
+use Rattle.blocks.specs.Method.{Method, plan, outcome, numberOf}
+use Rattle.blocks.specs.Demands.{Promise}
+use Rattle.records.specs.Marks.{size}
+use Rattle.records.specs.Records.{recordAt}
+use Rattle.records.specs.RoundTrip.{Bytes}
+use Rattle.records.specs.declared.Kind.the-variants.{Pl, Lf}
+use Rattle.records.specs.declared.Found.{Found}
+use Rattle.records.specs.declared.Found.the-variants.{Record, Missing}
+use Rattle.sheets.specs.Sheets.{nows, goals}
+use Rattle.responder.specs.Responses.{refusalBytes, responseTo}
+use Rattle.responder.specs.Refusals.{Complete, ProgramRefused}
+
+-- ---- lifts read back
+
+-- "LF: slab, destination": the lift that was found, and then the rest; nothing where nothing was found.
+abbrev pub andLift : Found → Plan → Plan
+andLift (Record a x) rest = (a ⟶ x) ∷ rest
+andLift Missing rest = []
+
+-- The LF records that stand one after another from a place on, at most c, up to the first place without one.
+unfoldable pub liftsAt : List ℕ → ℕ → ℕ → Plan
+liftsAt bytes at zero = []
+liftsAt bytes at (suc c) = andLift (recordAt Lf bytes at) (liftsAt bytes (at + size Lf) c)
+
+-- ---- what an answer tells of an input
+
+-- Of PL with c lifts and d changed: behind it stand c LF records and nothing more. They are the list that the method of the head gives for the sheet of the
+-- NW and GL records, and it keeps demand 3.
+pub record TellsPlan (bytes answer : List ℕ) (c d : ℕ) : Type 0 where
+  pub n : ℕ
+  pub method : Method
+  pub sheet : Complete bytes n (numberOf method)
+  pub lifts : length (liftsAt answer (size Pl) c) ≡ c
+  pub end : length answer ≡ size Pl + c * size Lf
+  pub changes : d ≡ changed (nows bytes 0 n) (goals bytes 0 n)
+  pub given : outcome method (nows bytes 0 n) (goals bytes 0 n) ≡ plan (liftsAt answer (size Pl) c)
+  pub promise : Promise method (nows bytes 0 n) (goals bytes 0 n) (liftsAt answer (size Pl) c)
+
+-- Of an answer of any kind.
+pub record Tells (bytes answer : List ℕ) : Type 0 where
+  -- "It writes PL and the LF records, or one NO."
+  pub either : ((c : ℕ) × (d : ℕ) × (recordAt Pl answer 0 ≡ Record c d)) ⊎ ((k : ℕ) × (p : ℕ) × (answer ≡ refusalBytes k p))
+  -- PL exactly where every question gets a yes, and then demand 3 is kept;
+  pub planned : ((n : ℕ) × (m : ℕ) × Complete bytes n m) ↔ ((c : ℕ) × (d : ℕ) × (recordAt Pl answer 0 ≡ Record c d))
+  pub promised : (c d : ℕ) → recordAt Pl answer 0 ≡ Record c d → TellsPlan bytes answer c d
+  -- NO exactly with the number and place of the first "no".
+  pub refused : (k p : ℕ) → ProgramRefused bytes k p ↔ (answer ≡ refusalBytes k p)
+  -- No field is too large for its two bytes.
+  pub small : Bytes answer
+
+-- ---- the theorem: the answer to every input tells this
+
+abbrev pub Told : Type 0
+Told = (bytes : List ℕ) → Tells bytes (responseTo bytes)
