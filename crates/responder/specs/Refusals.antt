@@ -29,7 +29,7 @@ asked bytes = askedBy (recordAt Hd bytes 0) bytes
 
 -- ---- the same as sentences
 
--- "HD: n, method", behind its mark.
+-- HD: n and the method, behind its mark.
 pub record Head (bytes : List ℕ) (n m : ℕ) : Type 0 where
   pub there : There Hd bytes 0
   pub slabs : n ≡ fieldAt bytes 2

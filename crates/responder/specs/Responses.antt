@@ -61,16 +61,16 @@ sheetQuestions n m bytes = asksMethod m ∷ asksSize n ∷ (recordQuestions n by
 
 -- ---- the output: "It writes PL and the LF records, or one NO."
 
--- "NO: refusal number, place".
+-- NO: refusal number and place.
 abbrev pub refusalBytes : ℕ → ℕ → List ℕ
 refusalBytes k p = recordBytes No (k ∷ p ∷ [])
 
--- "LF: slab, destination".
+-- LF: slab and destination.
 abbrev pub moveBytes : Plan → List ℕ
 moveBytes [] = []
 moveBytes ((a ⟶ x) ∷ p) = recordBytes Lf (a ∷ x ∷ []) ++ moveBytes p
 
--- "PL: lift count, changed", and the LF records.
+-- PL: lift count and changed, and then the LF records.
 abbrev pub planBytes : ℕ → ℕ → Plan → List ℕ
 planBytes count changed p = recordBytes Pl (count ∷ changed ∷ []) ++ moveBytes p
 

@@ -21,7 +21,7 @@ use Rattle.responder.specs.Refusals.{Complete, ProgramRefused}
 
 -- ---- lifts read back
 
--- "LF: slab, destination": the lift that was found, and then the rest; nothing where nothing was found.
+-- LF, slab and destination: the lift that was found, and then the rest; nothing where nothing was found.
 abbrev pub andLift : Found → Plan → Plan
 andLift (Record a x) rest = (a ⟶ x) ∷ rest
 andLift Missing rest = []
