@@ -6,7 +6,8 @@ pub mod PlannedLaws
 pub mod AskLaws
 pub mod AnsweredLaws
 pub mod ReplyLaws
-pub mod CutLaws
+pub mod PrefixLaws
+pub mod WantedLaws
 pub mod Order
 pub mod InputBound
 pub mod AnswerBound

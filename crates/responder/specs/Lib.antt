@@ -1,5 +1,6 @@
 pub mod Responses
 pub mod Order
 pub mod Answers
+pub mod Wanted
 pub mod Bounds
 pub mod Example
