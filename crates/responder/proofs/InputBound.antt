@@ -121,7 +121,7 @@ module _ (bytes more : List ℕ) where
         let h = there (w .head) i (ap decidedBy e) (missing-ends (w .n) p (broken-size w)) in
         same-answer (broken-way [] (broken-stays w h) refl) (broken-way [] w refl))
     same (Whole n m end) e w = named (w .head) (λ i.
-        let h : end + 1 ≤ length bytes = there (w .head) i (ap decidedBy e) (omega (arith, w .end)) in
+        let h = there (w .head) i (ap decidedBy e) (omega (arith, w .end)) in
         same-answer
         (tail-way (whole-stays w (omega (arith, h))) [] (λ f. omega (arith, f, h, length-append bytes more)) refl)
         (tail-way w [] (λ f. omega (arith, f, h)) refl))
