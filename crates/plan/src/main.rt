@@ -1,7 +1,9 @@
 // The planning program (document 01, "Records of the program"): records from standard input, records to standard output.
-ghost use Prim.Native.Nat.{_+_, _≤_};
-ghost use lib.ListN.{length};
+ghost use Prim.Native.Nat.{_≤_};
+ghost use mathlib.Core.Path.{_≡_};
+ghost use lib.ListN.{length, take};
 ghost use Rattle.io.specs.Counts.{Counts};
+ghost use Rattle.responder.specs.Wanted.{wanted};
 ghost use Rattle.responder.specs.Bounds.{enough};
 use libc::STDIN_FILENO;
 use libc::STDOUT_FILENO;
@@ -36,7 +38,8 @@ fn read_input(input: &mut [u8]) -> usize
 fn read_more(input: &mut [u8], n: usize) -> usize
     requires { ⌜ n ≤ enough ⌝ }
     requires { ⌜ enough ≤ length (now input) ⌝ }
-    ensures { λ r. ⌜ n + r ≤ enough ⌝ }
+    ensures { λ r. ⌜ r ≤ wanted (take n (now (input .entry))) ⌝ }
+    ensures { λ r. ⌜ take n (now (input .exit)) ≡ take n (now (input .entry)) ⌝ }
 {
     let more = responder::wanted(&input[..n]);
     if more == 0 {

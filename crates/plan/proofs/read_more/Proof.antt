@@ -1,7 +1,7 @@
 -- `plan::read_more` meets its contract. Assumes nothing.
 use borrow.Author.Needs.{needs}
 use native.Mathlib.Omega.{arith}
-use Rattle.plan.proofs.ReadLaws.{front, end-within, end-fits, end-room}
+use Rattle.plan.proofs.ReadLaws.{front, kept, end-fits, end-room}
 use Rattle.plan.proofs.read_more.Statement.{statement}
 use Rattle.plan.proofs.read_more.Tie as tie
 
@@ -45,7 +45,7 @@ returns-2 : tie.Need-returns-2
 returns-2 c =
     let d = c .before .before .before .before .before .before .before .before .before .before in
     let pre = d .before .before .before .pre in
-    omega (arith, end-within _ (pre .0) (pre .1) (d .wanted .ensures))
+    (omega (arith, d .wanted .ensures), kept _ (pre .0) (pre .1) _)
 
 pub read-more-spec : {M : Type 1} → statement M
 read-more-spec =
