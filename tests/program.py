@@ -2,6 +2,7 @@
 
 What it should write comes from document 01's question 12 read literally here, and from the plans of
 reading.py; full yards take their plans from the closed forms of sheets.py. Each run has 512 KiB of stack.
+An input whose answer is decided is answered within a second, though it never ends or is not closed.
 """
 
 import os
@@ -10,6 +11,9 @@ import resource
 import signal
 import subprocess
 import sys
+import tempfile
+import threading
+import time
 from collections.abc import Iterator
 from pathlib import Path
 
@@ -26,6 +30,7 @@ SEED = 12
 SHEETS = 200
 STACK = 512 * 1024
 TAIL = 3_000_000
+SOON = 1.0
 
 
 def answer(data: bytes) -> bytes:
@@ -147,14 +152,102 @@ def run(data: bytes) -> bytes:
     return done.stdout if done.returncode == 0 else b""
 
 
-def slowly(data: bytes) -> bytes:
-    """What the program writes where its input comes a byte at a time."""
+def slowly(data: bytes, size: int) -> bytes:
+    """What the program writes where its input comes in pieces of some size."""
     with subprocess.Popen([PROGRAM], stdin=subprocess.PIPE, stdout=subprocess.PIPE, bufsize=0) as program:
         assert program.stdin is not None and program.stdout is not None
-        for byte in data:
-            program.stdin.write(bytes([byte]))
+        for start in range(0, len(data), size):
+            program.stdin.write(data[start : start + size])
+            time.sleep(0.001)
         program.stdin.close()
         return program.stdout.read()
+
+
+def decided() -> Iterator[tuple[bytes, bytes]]:
+    """Inputs with their answers by questions 12, 1 and 2, which no byte behind them can change."""
+    whole = asked(3, [2, 3, 0, 5, 0], [5, 0, 0, 3, 2])
+    flat = [0] * MOST
+    yield bytes(HEAD), refused(12, 0)
+    yield from ((head(5, method), refused(1, 0)) for method in (0, 4, TOP))
+    yield head(MOST + 1, 1), refused(2, 0)
+    yield whole[:HEAD] + packed("GL 0"), refused(12, 1)
+    yield whole[: HEAD + 2 * ENTRY] + bytes(ENTRY), refused(12, 3)
+    yield whole[: HEAD + 7 * ENTRY] + packed("NW 0"), refused(12, 8)
+    yield whole + b"\0", refused(12, 2 * 5 + 1)
+    yield EXAMPLE[0] + b"N", refused(12, 2 * 2 + 1)
+    yield asked(1, flat, flat) + b"\0", refused(12, 2 * MOST + 1)
+
+
+def soon(program: subprocess.Popen[bytes]) -> bytes:
+    """What the program writes, where it ends within a second."""
+    assert program.stdout is not None
+    try:
+        program.wait(SOON)
+    except subprocess.TimeoutExpired:
+        program.kill()
+        return b""
+    return program.stdout.read()
+
+
+def pour(front: bytes, pipe: int) -> None:
+    """Writes the bytes and then zeros, until nobody reads them."""
+    with open(pipe, "wb", buffering=0) as writer:
+        try:
+            writer.write(front)
+            while True:
+                writer.write(bytes(4096))
+        except BrokenPipeError:
+            pass
+
+
+def endless(front: bytes) -> bytes:
+    """What the program soon writes where its input begins so and goes on in zeros without end."""
+    read, write = os.pipe()
+    with open(read, "rb") as reader, subprocess.Popen([PROGRAM], stdin=reader, stdout=subprocess.PIPE) as program:
+        reader.close()
+        pouring = threading.Thread(target=pour, args=(front, write))
+        pouring.start()
+        answered = soon(program)
+        pouring.join()
+        return answered
+
+
+def zeros() -> bytes:
+    """What the program soon writes where its input is /dev/zero."""
+    with open("/dev/zero", "rb") as source:
+        with subprocess.Popen([PROGRAM], stdin=source, stdout=subprocess.PIPE) as program:
+            return soon(program)
+
+
+def held(front: bytes) -> bytes:
+    """What the program soon writes where its input begins so, and no more comes though it is not closed."""
+    with subprocess.Popen([PROGRAM], stdin=subprocess.PIPE, stdout=subprocess.PIPE, bufsize=0) as program:
+        assert program.stdin is not None
+        program.stdin.write(front)
+        return soon(program)
+
+
+def taken(data: bytes) -> int:
+    """How many bytes of a file the program reads."""
+    with tempfile.TemporaryFile() as file:
+        file.write(data)
+        file.seek(0)
+        subprocess.run([PROGRAM], stdin=file, capture_output=True, check=True)
+        return os.lseek(file.fileno(), 0, os.SEEK_CUR)
+
+
+def stops() -> Iterator[tuple[bool, str]]:
+    """Inputs that come in pieces, that never end, that are held open, and how far a file is read."""
+    for data, told in (EXAMPLE, *decided()):
+        for size in (1, 3, 5, 7) if len(data) < 100 else (1001, 4096):
+            yield run(data) == told == slowly(data, size), f"{len(data)} bytes in pieces of {size}: {data[:40].hex()}"
+    yield zeros() == refused(12, 0), "zeros without end"
+    yield endless(EXAMPLE[0]) == refused(12, 5), "the example and zeros without end"
+    for front, told in decided():
+        yield endless(front) == told, f"{len(front)} bytes and zeros without end: {front[:40].hex()}"
+        yield held(front) == told, f"{len(front)} bytes held open: {front[:40].hex()}"
+    for front, size in ((b"", HEAD), (head(5, 0), HEAD), (EXAMPLE[0], len(EXAMPLE[0]) + 1)):
+        yield taken(front + bytes(TAIL)) == size, f"reading {size} bytes of a long file: {front.hex()}"
 
 
 def unheard(data: bytes) -> bool:
@@ -172,9 +265,9 @@ def main() -> int:
     inputs = [*documents(), *marred(), *heads(), *random_inputs(), *full()]
     pairs = [EXAMPLE, *vectors(), *((data, answer(data)) for data in inputs), *plans()]
     others = [
-        (slowly(EXAMPLE[0]) == EXAMPLE[1], "the example a byte at a time"),
         (unheard(pairs[-1][0]), "a full yard's plan into a closed pipe"),
         *sizes(),
+        *stops(),
     ]
     failed = 0
     for number, (data, told) in enumerate(pairs):

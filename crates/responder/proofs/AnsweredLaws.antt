@@ -42,7 +42,7 @@ pub record Answered (bytes : List ℕ) (r : Planned) (space′ : List ℕ) : Typ
 refusal : {bytes : List ℕ} {k p : ℕ} (space : List ℕ) → refusalBytes k p ≡ responseTo bytes → Answered bytes (Refused k p) space
 refusal space e = record { same = e; writable = record { counts = λ c d f. let z : _≡_ {A = ℕ} 0 1 = cc in absurd (omega arith) } }
 
-headless-way : {bytes : List ℕ} (space : List ℕ) {r : Planned} → recordAt Hd bytes 0 ≡ Missing → r ≡ Refused 12 0 → Answered bytes r space
+pub headless-way : {bytes : List ℕ} (space : List ℕ) {r : Planned} → recordAt Hd bytes 0 ≡ Missing → r ≡ Refused 12 0 → Answered bytes r space
 unfolding responseTo
 headless-way {bytes} space {r} head e = subst (λ a. Answered bytes a space) (sym e) (refusal space (sym (ap (λ f. responseBy f bytes) head)))
 
@@ -58,6 +58,11 @@ module _ (bytes : List ℕ) {n m : ℕ} (head : recordAt Hd bytes 0 ≡ Record n
   no-way : {k p : ℕ} → FirstNo (sheetQuestions n m bytes) k p → Answered bytes (Refused k p) space
   no-way {k} {p} f = asked-no (sheet-refuses n m bytes k p .1 f)
 
+  -- question 1
+  pub unnamed-way : ¬ IsMethod m → Answered bytes (Refused 1 0) space
+  unfolding sheetQuestions asksMethod
+  unnamed-way i = no-way (inl (refl, (refl, i)))
+
   -- question 1 before it
   behind-way : (k p : ℕ) {r : Planned} → (IsMethod m → FirstNo (sheetQuestions n m bytes) k p) → r ≡ refusedAs m k p → Answered bytes r space
   unfolding sheetQuestions asksMethod
@@ -65,14 +70,14 @@ module _ (bytes : List ℕ) {n m : ℕ} (head : recordAt Hd bytes 0 ≡ Record n
     where
       by : {t : Bool} → Reflects (IsMethod m) t → Answered bytes (cond t (Refused k p) (Refused 1 0)) space
       by (holds i) = no-way (f i)
-      by (fails i) = no-way (inl (refl, (refl, i)))
+      by (fails i) = unnamed-way i
 
 module _ {bytes : List ℕ} {m : ℕ} {r : Planned} (space : List ℕ) where
-  long-way : IsLong bytes 0 m → r ≡ refusedAs m 2 0 → Answered bytes r space
+  pub long-way : IsLong bytes 0 m → r ≡ refusedAs m 2 0 → Answered bytes r space
   unfolding sheetQuestions asksMethod asksSize
   long-way w = behind-way bytes (w .head) space 2 0 (λ i. inr (i, inl (refl, (refl, λ l. omega (arith, w .long)))))
 
-  broken-way : {p : ℕ} → IsBroken bytes 0 m p → r ≡ refusedAs m 12 p → Answered bytes r space
+  pub broken-way : {p : ℕ} → IsBroken bytes 0 m p → r ≡ refusedAs m 12 p → Answered bytes r space
   unfolding sheetQuestions asksMethod asksSize asksNows asksGoals
   broken-way {p} w = behind-way bytes (w .head) space 12 p (λ i. inr (i, inr (w .small, by (w .missing))))
     where
@@ -100,7 +105,7 @@ module _ {bytes : List ℕ} {n m e : ℕ} (w : IsWhole bytes 0 n m e) where
   inside : endAt 0 n ≤ length bytes
   inside = end-room n bytes (found-room Hd bytes 0 (w .head)) nows-yes goals-yes
 
-  tail-way : (space : List ℕ) {r : Planned} → length bytes ≢ e → r ≡ refusedAs m 12 (2 * n + 1) → Answered bytes r space
+  pub tail-way : (space : List ℕ) {r : Planned} → length bytes ≢ e → r ≡ refusedAs m 12 (2 * n + 1) → Answered bytes r space
   unfolding sheetQuestions asksMethod asksSize asksNows asksGoals asksTail
   tail-way space ne =
       behind-way bytes (w .head) space 12 (2 * n + 1)

@@ -1,98 +1,160 @@
--- The first 32,007 bytes decide the answer: every record that is asked for ends before them, and a longer input has a tail. Assumes nothing.
-use Prim.Native.Nat.{ℕ, _+_, _*_, _≤_, _<_}
-use mathlib.Core.Path.{_≡_, refl, sym, _∙_, ap, ap₂}
+-- What decides the answer: with more bytes behind those that decide, the same sheet is read, or the same record is missing, and a tail stays one.
+-- Assumes nothing.
+use Prim.Native.Nat.{ℕ, suc, _+_, _-_, _*_, _≤_, _<_}
+use mathlib.Core.Path.{_≡_, refl, sym, _∙_, ap}
 use mathlib.Core.Logic.{_⊎_, inl, inr}
-use mathlib.Core.Bool.{Bool, false, cond}
-use mathlib.Core.List.{List}
+use mathlib.Core.Bool.{Bool, true, false, _&&_, cond, false≢true}
+use mathlib.Core.List.{List, [], _++_}
 use native.Mathlib.Omega.{arith}
-use borrow.Author.Tests.{lt-leb}
-use lib.Dec.{eqb, leb}
-use lib.ListN.{length, take, length-take}
+use lib.ListN.{length, take, drop, length-take, length-append, take-append-drop}
 use lib.Seq.{take-all}
 use Rattle.blocks.specs.State.{most}
 use Rattle.blocks.specs.Method.{methodOf}
-use Rattle.blocks.specs.Question.{Asked, allYes, no′, firstNo, isMethod, asksMethod, asksSize, planQuestions}
-use Rattle.lists.proofs.ReflectLaws.{Reflects, holds, fails, decided, leb-reflects}
+use Rattle.blocks.specs.Question.{IsMethod, isMethod}
+use Rattle.lists.proofs.ReflectLaws.{Reflects, holds, fails, decided, not-not, to-true, leb-reflects, ltb-reflects}
+use Rattle.planner.specs.declared.Planned.{Planned}
+use Rattle.records.specs.Marks.{marks, markOf, size}
 use Rattle.records.specs.Records.{recordAt}
 use Rattle.records.specs.declared.Kind.the-variants.{Hd, Nw, Gl}
 use Rattle.records.specs.declared.Found.{Found}
 use Rattle.records.specs.declared.Found.the-variants.{Record, Missing}
-use Rattle.sheets.specs.Sheets.{nowsAt, goalsAt, endAt, nows, goals}
-use Rattle.sheets.proofs.PlaceLaws.{size-hd, goals-at, end-at}
-use Rattle.responder.specs.Responses.{asksNows, asksGoals, asksTail, lent, sheetQuestions, planRecords, reply, sheetResponse, responseBy, responseTo}
-use Rattle.responder.specs.Bounds.{enough, Enough}
+use Rattle.records.proofs.ReadLaws.{found-room}
+use Rattle.sheets.specs.declared.Sheet.{Sheet}
+use Rattle.sheets.specs.declared.Sheet.the-variants.{Headless, Long, Broken, Whole}
+use Rattle.sheets.specs.Sheets.{nowsAt, goalsAt, endAt, nows, goals, sheetAt}
+use Rattle.sheets.specs.Cases.{IsLong, NowMissing, GoalMissing, IsBroken, IsWhole, Says}
+use Rattle.sheets.proofs.PlaceLaws.{size-hd, end-at}
+use Rattle.sheets.proofs.HeadLaws.{long-sheet}
+use Rattle.sheets.proofs.SheetLaws.{sheet-says}
+use Rattle.responder.specs.Responses.{responseTo}
+use Rattle.responder.specs.Wanted.{decidedBy, wantedBy, wanted}
+use Rattle.responder.specs.Bounds.{Decides, enough, WantedBounded, Enough}
+use Rattle.responder.proofs.PrefixLaws.{same-record, same-entries}
+use Rattle.responder.proofs.DecidedLaws.{method-reflects}
+use Rattle.responder.proofs.AnsweredLaws.{Answered, headless-way, unnamed-way, long-way, broken-way, tail-way}
 use Rattle.responder.proofs.SizeLaws.{enough-is}
-use Rattle.responder.proofs.CutLaws.{same-record, same-entries}
-use Rattle.responder.proofs.DecidedLaws.{sheet-accepts}
 
-module _ (n m : ℕ) (bytes : List ℕ) (more : enough < length bytes) where
-  abbrev cut : List ℕ
-  cut = take enough bytes
+-- the end of a GL record by the records before it, and of a record that is not there
+goal-ends : (n d p : ℕ) → p ≡ 1 + n + d → size Hd + p * size Nw ≡ goalsAt 0 n + suc d * size Gl
+unfolding markOf marks
+goal-ends n d p e = omega (arith, e)
 
-  cut-size : length cut ≡ enough
-  cut-size = omega (arith, length-take enough bytes)
+missing-ends : (n p : ℕ) → p ≤ 2 * n → size Hd + p * size Nw ≤ endAt 0 n + 1
+unfolding markOf marks
+missing-ends n p l = omega arith
 
-  -- what is asked behind question 2, by the entries and the test of a tail
-  abbrev behind : List ℕ → List ℕ → Bool → Asked
-  behind s g t =
-      cond
-      (eqb (length s) n)
-      (cond (eqb (length g) n) (cond t (firstNo (planQuestions m s g (lent n))) (no′ 12 (2 * n + 1))) (no′ 12 (1 + n + length g)))
-      (no′ 12 (1 + length s))
+module _ (bytes more : List ℕ) where
+  abbrev all : List ℕ
+  all = bytes ++ more
 
-  -- Whatever an input of more bytes says, its first "no" is the same with the others cut off.
-  same-asked : firstNo (sheetQuestions n m cut) ≡ firstNo (sheetQuestions n m bytes)
-  unfolding sheetQuestions asksMethod asksSize asksNows asksGoals asksTail
-  same-asked = by (leb-reflects n most)
+  -- ---- with more bytes behind, the head and the records that decide are as they were
+
+  head-stays : {n m : ℕ} → recordAt Hd bytes 0 ≡ Record n m → recordAt Hd all 0 ≡ Record n m
+  head-stays e = same-record bytes more Hd 0 (found-room Hd bytes 0 e) ∙ e
+
+  long-stays : {m : ℕ} → IsLong bytes 0 m → IsLong all 0 m
+  long-stays w = record { n = w .n; head = head-stays (w .head); long = w .long }
+
+  nows-stay : (n : ℕ) → goalsAt 0 n ≤ length bytes → nows all 0 n ≡ nows bytes 0 n
+  nows-stay n h = same-entries bytes more Nw n n (nowsAt 0) (omega arith) h
+
+  broken-stays : {m p : ℕ} → IsBroken bytes 0 m p → size Hd + p * size Nw ≤ length bytes → IsBroken all 0 m p
+  broken-stays {m} {p} w h = record { n = w .n; head = head-stays (w .head); small = w .small; missing = by (w .missing) }
     where
-      asked : List ℕ → Asked
-      asked l = behind (nows l 0 n) (goals l 0 n) (leb (length l) (endAt 0 n))
+      by : NowMissing bytes 0 (w .n) p ⊎ GoalMissing bytes 0 (w .n) p → NowMissing all 0 (w .n) p ⊎ GoalMissing all 0 (w .n) p
+      by (inl f) =
+          let same : nows all 0 (w .n) ≡ nows bytes 0 (w .n) = same-entries bytes more Nw (w .n) p (nowsAt 0) (omega (arith, f .place)) (omega (arith, h)) in
+          inl (record { few = rw same (f .few); place = rw same (f .place) })
+      by (inr f) =
+          let d : ℕ = length (goals bytes 0 (w .n)) in
+          let ends : size Hd + p * size Nw ≡ goalsAt 0 (w .n) + suc d * size Gl = goal-ends (w .n) d p (f .place) in
+          let same-nows : nows all 0 (w .n) ≡ nows bytes 0 (w .n) = nows-stay (w .n) (omega (arith, ends)) in
+          let same : goals all 0 (w .n) ≡ goals bytes 0 (w .n) = same-entries bytes more Gl (w .n) (suc d) (goalsAt 0 (w .n)) (omega arith) (omega (arith, ends)) in
+          inr (record { nows-there = rw same-nows (f .nows-there); few = rw same (f .few); place = rw same (f .place) })
 
-      same : n ≤ most → asked cut ≡ asked bytes
-      same small =
-          ap₂ (λ s g. behind s g (leb (length cut) (endAt 0 n))) nows-same goals-same
-          ∙ ap (behind (nows bytes 0 n) (goals bytes 0 n)) (tail cut (omega (arith, cut-size, shorter)) ∙ sym (tail bytes (omega (arith, more, shorter))))
-        where
-          nows-same : nows cut 0 n ≡ nows bytes 0 n
-          nows-same = same-entries enough bytes Nw n (nowsAt 0) (omega (arith, goals-at 0 n, enough-is, small))
+  whole-stays : {n m e : ℕ} → IsWhole bytes 0 n m e → e ≤ length bytes → IsWhole all 0 n m e
+  whole-stays {n} w h =
+      let same-nows : nows all 0 n ≡ nows bytes 0 n = nows-stay n (omega (arith, w .end)) in
+      let same : goals all 0 n ≡ goals bytes 0 n = same-entries bytes more Gl n n (goalsAt 0 n) (omega arith) (omega (arith, w .end)) in
+      record { head = head-stays (w .head); small = w .small; nows-there = ap length same-nows ∙ w .nows-there; goals-there = ap length same ∙ w .goals-there; end = w .end }
 
-          goals-same : goals cut 0 n ≡ goals bytes 0 n
-          goals-same = same-entries enough bytes Gl n (goalsAt 0 n) (omega (arith, end-at 0 n, enough-is, small))
+  -- ---- and so is the answer
 
-          shorter : endAt 0 n < enough
-          shorter = omega (arith, end-at 0 n, enough-is, small)
+  same-answer : {r : Planned} → Answered all r [] → Answered bytes r [] → responseTo all ≡ responseTo bytes
+  same-answer a b = sym (a .same) ∙ b .same
 
-          tail : (l : List ℕ) → endAt 0 n < length l → leb (length l) (endAt 0 n) ≡ false
-          tail l h = lt-leb (length l) (endAt 0 n) h
+  module _ (none : wanted bytes ≡ 0) where
+    -- behind a head with a method so many bytes are there
+    there : {n m d : ℕ} → recordAt Hd bytes 0 ≡ Record n m → IsMethod m → decidedBy (sheetAt bytes 0) ≡ d → d ≤ endAt 0 n + 1 → d ≤ length bytes
+    unfolding wanted
+    there {n} {m} {d} e i is l =
+        by (isMethod (methodOf m)) (to-true (method-reflects m) i) (ltb-reflects (length bytes) (decidedBy (sheetAt bytes 0))) (ap (λ f. wantedBy f bytes) (sym e) ∙ none)
+      where
+        by : (t : Bool) {u : Bool} → t ≡ true → Reflects (length bytes < decidedBy (sheetAt bytes 0)) u → cond (t && u) (endAt 0 n + 1 - length bytes) 0 ≡ 0 → d ≤ length bytes
+        by true f (holds h) z = omega (arith, h, is, l, z)
+        by true f (fails h) z = omega (arith, h, is)
+        by false f r z = absurd (false≢true f)
 
-      by : {t : Bool} → Reflects (n ≤ most) t
-          → cond (isMethod (methodOf m)) (cond t (asked cut) (no′ 2 0)) (no′ 1 0) ≡ cond (isMethod (methodOf m)) (cond t (asked bytes) (no′ 2 0)) (no′ 1 0)
-      by (holds small) = ap (λ a. cond (isMethod (methodOf m)) a (no′ 1 0)) (same small)
-      by (fails _) = refl
+    headless-there : recordAt Hd bytes 0 ≡ Missing → size Hd ≤ length bytes
+    unfolding wanted
+    headless-there e = let z : size Hd - length bytes ≡ 0 = ap (λ f. wantedBy f bytes) (sym e) ∙ none in omega (arith, z)
 
-  -- a tail is refused
-  tailed : firstNo (sheetQuestions n m bytes) ≡ allYes → ⊥
-  unfolding sheetQuestions asksSize asksTail
-  tailed e = let y = sheet-accepts n m bytes .0 e in omega (arith, y .1 .0, y .1 .1 .1 .1 .0, more, end-at 0 n, enough-is)
+    -- without a method question 1 is answered no
+    named : {n m : ℕ} → recordAt Hd bytes 0 ≡ Record n m → (IsMethod m → responseTo all ≡ responseTo bytes) → responseTo all ≡ responseTo bytes
+    named {n} {m} e f = by (decided (method-reflects m))
+      where
+        by : IsMethod m ⊎ (¬ IsMethod m) → responseTo all ≡ responseTo bytes
+        by (inl i) = f i
+        by (inr i) = same-answer (unnamed-way all (head-stays e) [] i) (unnamed-way bytes e [] i)
 
-  same-sheet : sheetResponse n m cut ≡ sheetResponse n m bytes
-  unfolding sheetResponse
-  same-sheet = by (firstNo (sheetQuestions n m bytes)) refl
-    where
-      by : (a : Asked) → firstNo (sheetQuestions n m bytes) ≡ a → sheetResponse n m cut ≡ reply a (planRecords m (nows bytes 0 n) (goals bytes 0 n) (lent n))
-      by allYes e = absurd (tailed e)
-      by (no′ k p) e = ap (λ a. reply a (planRecords m (nows cut 0 n) (goals cut 0 n) (lent n))) (same-asked ∙ e)
+    broken-size : {m p : ℕ} (w : IsBroken bytes 0 m p) → p ≤ 2 * w .n
+    broken-size {m} {p} w = by (w .missing)
+      where
+        by : NowMissing bytes 0 (w .n) p ⊎ GoalMissing bytes 0 (w .n) p → p ≤ 2 * w .n
+        by (inl f) = omega (arith, f .place, f .few)
+        by (inr f) = omega (arith, f .place, f .few)
 
-pub input-bound : Enough
-unfolding responseTo
-input-bound bytes = whole (decided (leb-reflects (length bytes) enough))
+    same : (s : Sheet) → sheetAt bytes 0 ≡ s → Says bytes 0 s → responseTo all ≡ responseTo bytes
+    same Headless e w = same-answer (headless-way [] (same-record bytes more Hd 0 (omega (arith, headless-there w)) ∙ w) refl) (headless-way [] w refl)
+    same (Long m) e w = same-answer (long-way [] (long-stays w) refl) (long-way [] w refl)
+    same (Broken m p) e w = named (w .head) (λ i.
+        let h = there (w .head) i (ap decidedBy e) (missing-ends (w .n) p (broken-size w)) in
+        same-answer (broken-way [] (broken-stays w h) refl) (broken-way [] w refl))
+    same (Whole n m end) e w = named (w .head) (λ i.
+        let h = there (w .head) i (ap decidedBy e) (omega (arith, w .end)) in
+        same-answer
+        (tail-way (whole-stays w (omega (arith, h))) [] (λ f. omega (arith, f, h, length-append bytes more)) refl)
+        (tail-way w [] (λ f. omega (arith, f, h)) refl))
+
+pub decides : Decides
+decides bytes more none = same bytes more none (sheetAt bytes 0) refl (sheet-says bytes 0)
+
+-- ---- never more than fill 32,007 bytes: a head that says more slabs than the limit decides
+
+pub wanted-bounded : WantedBounded
+unfolding wanted
+wanted-bounded bytes l = by (recordAt Hd bytes 0) refl
   where
-    by : enough < length bytes → (f : Found) → responseBy f (take enough bytes) ≡ responseBy f bytes
-    by more (Record n m) = same-sheet n m bytes more
-    by more Missing = refl
+    by : (f : Found) → recordAt Hd bytes 0 ≡ f → length bytes + wantedBy f bytes ≤ enough
+    by Missing e = omega (arith, size-hd, enough-is)
+    by (Record n m) e = behind (isMethod (methodOf m)) (ltb-reflects (length bytes) (decidedBy (sheetAt bytes 0)))
+      where
+        small : length bytes < decidedBy (sheetAt bytes 0) → n ≤ most
+        small h = not-not (leb-reflects n most) (λ k. omega (arith, h, found-room Hd bytes 0 e, ap decidedBy (long-sheet bytes 0 e (omega (arith, k)))))
 
-    whole : (length bytes ≤ enough) ⊎ (¬ (length bytes ≤ enough)) → responseTo (take enough bytes) ≡ responseTo bytes
-    whole (inl l) = ap responseTo (take-all enough bytes l)
-    whole (inr l) =
-        ap (λ f. responseBy f (take enough bytes)) (same-record enough bytes Hd 0 (omega (arith, size-hd, enough-is)))
-        ∙ by (omega (arith, l)) (recordAt Hd bytes 0)
+        behind : (t : Bool) {u : Bool} → Reflects (length bytes < decidedBy (sheetAt bytes 0)) u → length bytes + cond (t && u) (endAt 0 n + 1 - length bytes) 0 ≤ enough
+        behind true (holds h) = omega (arith, small h, end-at 0 n, enough-is)
+        behind true (fails h) = omega arith
+        behind false (holds h) = omega arith
+        behind false (fails h) = omega arith
+
+-- so 32,007 bytes decide
+pub input-bound : Enough
+input-bound bytes = by (decided (leb-reflects (length bytes) enough))
+  where
+    by : (length bytes ≤ enough) ⊎ (¬ (length bytes ≤ enough)) → responseTo (take enough bytes) ≡ responseTo bytes
+    by (inl l) = ap responseTo (take-all enough bytes l)
+    by (inr l) =
+        let full : length (take enough bytes) ≡ enough = omega (arith, l, length-take enough bytes) in
+        let none : wanted (take enough bytes) ≡ 0 = omega (arith, full, wanted-bounded (take enough bytes) (omega (arith, full))) in
+        sym (decides (take enough bytes) (drop enough bytes) none) ∙ ap responseTo (take-append-drop enough bytes)

@@ -10,7 +10,8 @@ pub mod ToldLaws
 pub mod AskLaws
 pub mod AnsweredLaws
 pub mod ReplyLaws
-pub mod CutLaws
+pub mod PrefixLaws
+pub mod WantedLaws
 pub mod InputBound
 pub mod AnswerBound
 pub mod Example

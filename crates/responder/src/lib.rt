@@ -1,18 +1,25 @@
-// The planning program as one function: the bytes of its input answered by the bytes of its output (document 01, "Records of the program").
+// The planning program as one function, the bytes of its input answered by the bytes of its output (document 01, "Records of the program"), and another
+// that says how much more of an input can matter.
+ghost use Prim.Native.Nat.{_-_};
 ghost use mathlib.Core.Path.{_≡_};
-ghost use Rattle.responder.specs.Bounds.{enough};
+ghost use Rattle.sheets.specs.Sheets.{sheetAt};
+ghost use Rattle.responder.specs.Wanted.{decidedBy, wanted};
 ghost use Rattle.responder.specs.Answers.{replyOf, refusedAs, Responds, Askable, Asks, Writable, Roomy, Wrote, MovesFit, PutMoves};
 use planner::Named;
 use planner::Planned;
+use records::Found;
 use records::Kind;
 use rows::MOST;
 use sheets::Sheet;
 
-// The longest input without a tail: HD, MOST NW and MOST GL records.
-pub const LONGEST_INPUT: usize = 6 + 8 * MOST;
+// The bytes of HD.
+const HEAD: usize = 6;
 
-// A byte more, by which a tail is seen.
-pub const KEPT: usize = LONGEST_INPUT + 1;
+// The bytes of a NW or GL record.
+const ENTRY: usize = 4;
+
+// The longest input without a tail, HD, MOST NW and MOST GL records, and a byte by which a tail is seen.
+pub const KEPT: usize = HEAD + 2 * ENTRY * MOST + 1;
 
 // The longest output: PL and 2 × MOST LF records.
 pub const LONGEST_ANSWER: usize = 6 + 12 * MOST;
@@ -32,11 +39,49 @@ pub fn respond(input: &[u8], out: &mut [u8]) -> usize
     write_answer(answer, &space, out)
 }
 
-// As many bytes of an input decide its answer (`Enough` in specs/Bounds.antt).
-pub fn kept() -> usize
-    ensures { λ r. ⌜ r ≡ enough ⌝ }
+// How many bytes behind these can still matter to the answer; none where it is decided (`Decides` in specs/Bounds.antt).
+pub fn wanted(input: &[u8]) -> usize
+    ensures { λ r. ⌜ r ≡ wanted (now (input .entry)) ⌝ }
 {
-    KEPT
+    let head = records::read_record(Kind::Hd, input, 0);
+    let Found::Record { first, second } = head else {
+        return up_to(HEAD, input.len());
+    };
+    let named = planner::method_of(second);
+    let Named::By(_) = named else {
+        return 0;
+    };
+    if input.len() < decided_by(input) {
+        up_to(HEAD + 2 * ENTRY * lists::wide(first) + 1, input.len())
+    } else {
+        0
+    }
+}
+
+// How many bytes decide what becomes of the sheet at the front of the input.
+fn decided_by(input: &[u8]) -> usize
+    ensures { λ r. ⌜ r ≡ decidedBy (sheetAt (now (input .entry)) 0) ⌝ }
+{
+    let mut initial = [0u16; MOST];
+    let mut goal = [0u16; MOST];
+    let sheet = sheets::read_sheet(input, 0, &mut initial, &mut goal);
+    match sheet {
+        Sheet::Headless => HEAD,
+        Sheet::Long { method: _ } => HEAD,
+        Sheet::Broken { method: _, before } => HEAD + ENTRY * lists::wide(before),
+        Sheet::Whole {
+            n: _,
+            method: _,
+            end,
+        } => end + 1,
+    }
+}
+
+// How far it is up to a place; 0 from there on.
+fn up_to(place: usize, at: usize) -> usize
+    ensures { λ r. ⌜ r ≡ place - at ⌝ }
+{
+    if at < place { place - at } else { 0 }
 }
 
 // The questions to a sheet that was read from an input of some size: of a whole one the tail's, and then those of planning.

@@ -1,0 +1,79 @@
+-- The ways out of `decided_by` and of `wanted`. Assumes nothing.
+use Prim.Native.Nat.{ℕ, _+_, _-_, _*_, _^_, _≤_, _<_}
+use mathlib.Core.Path.{_≡_, sym, _∙_, ap}
+use mathlib.Core.Bool.{true, false}
+use mathlib.Core.List.{List}
+use native.Mathlib.Omega.{arith}
+use borrow.Author.Tests.{lt-ltb, le-ltb}
+use lib.Dec.{ltb}
+use lib.ListN.{length}
+use Rattle.blocks.specs.Method.{methodOf}
+use Rattle.blocks.specs.Question.{isMethod}
+use Rattle.planner.specs.Answers.{namedAs}
+use Rattle.planner.specs.declared.Method.{Method}
+use Rattle.planner.specs.declared.Named.{Named}
+use Rattle.planner.specs.declared.Named.the-variants.{By, Unknown}
+use Rattle.records.specs.Marks.{marks, markOf}
+use Rattle.records.specs.Records.{recordAt}
+use Rattle.records.specs.declared.Kind.the-variants.{Hd}
+use Rattle.records.specs.declared.Found.{Found}
+use Rattle.records.specs.declared.Found.the-variants.{Record, Missing}
+use Rattle.sheets.specs.declared.Sheet.{Sheet}
+use Rattle.sheets.specs.declared.Sheet.the-variants.{Headless, Long, Broken, Whole}
+use Rattle.sheets.specs.Sheets.{endAt, sheetAt}
+use Rattle.sheets.specs.Reads.{ReadsSheet}
+use Rattle.sheets.proofs.PlaceLaws.{size-hd, end-at}
+use Rattle.sheets.proofs.SheetLaws as read
+use Rattle.responder.specs.Wanted.{decidedBy, wantedBy, wanted}
+
+-- ---- the cases of a sheet that was read
+
+module _ {bytes initial goal : List ℕ} {sheet : Sheet} {initial′ goal′ : List ℕ} (w : ReadsSheet bytes 0 initial goal sheet initial′ goal′) where
+  case : {s : Sheet} → sheet ≡ s → decidedBy s ≡ decidedBy (sheetAt bytes 0)
+  case e = ap decidedBy (sym e ∙ w .answer)
+
+  pub headless-case : sheet ≡ Headless → 6 ≡ decidedBy (sheetAt bytes 0)
+  headless-case e = sym size-hd ∙ case e
+
+  pub long-case : {m : ℕ} → sheet ≡ Long m → 6 ≡ decidedBy (sheetAt bytes 0)
+  long-case e = sym size-hd ∙ case e
+
+  pub broken-case : {m p k : ℕ} → sheet ≡ Broken m p → k ≡ p → 6 + 4 * k ≡ decidedBy (sheetAt bytes 0)
+  unfolding markOf marks
+  broken-case e f = omega (arith, case e, f)
+
+  pub whole-case : {n m e : ℕ} → sheet ≡ Whole n m e → e + 1 ≡ decidedBy (sheetAt bytes 0)
+  whole-case f = case f
+
+  pub whole-fits : {n m e : ℕ} → sheet ≡ Whole n m e → e + 1 < 2 ^ 64
+  whole-fits {n} f = let s = read.whole w f in omega (arith, s .end, s .small, end-at 0 n)
+
+-- ---- what is wanted
+
+module _ (bytes : List ℕ) {head : Found} (is : head ≡ recordAt Hd bytes 0) where
+  pub headless-way : {r : ℕ} → head ≡ Missing → r ≡ 6 - length bytes → r ≡ wanted bytes
+  unfolding wanted
+  headless-way e f = f ∙ ap (λ i. i - length bytes) (sym size-hd) ∙ ap (λ h. wantedBy h bytes) (sym e ∙ is)
+
+  behind : {n m : ℕ} → head ≡ Record n m → wantedBy (Record n m) bytes ≡ wanted bytes
+  unfolding wanted
+  behind e = ap (λ h. wantedBy h bytes) (sym e ∙ is)
+
+  module _ {n m : ℕ} (e : head ≡ Record n m) {named : Named} (called : namedAs named ≡ methodOf m) where
+    named-as : {x : Named} → named ≡ x → isMethod (methodOf m) ≡ isMethod (namedAs x)
+    named-as f = ap isMethod (sym called ∙ ap namedAs f)
+
+    pub unknown-way : named ≡ Unknown → 0 ≡ wanted bytes
+    unknown-way f = sym (simp (named-as f)) ∙ behind e
+
+    module _ {by : Method} {d : ℕ} (b : named ≡ By by) (decides : d ≡ decidedBy (sheetAt bytes 0)) where
+      pub wanting-way : {k r : ℕ} → length bytes < d → k ≡ n → r ≡ 6 + 8 * k + 1 - length bytes → r ≡ wanted bytes
+      wanting-way {k} l f g =
+          let less : ltb (length bytes) (decidedBy (sheetAt bytes 0)) ≡ true = lt-ltb (length bytes) (decidedBy (sheetAt bytes 0)) (omega (arith, decides)) in
+          let rest : endAt 0 n + 1 - length bytes ≡ 6 + 8 * k + 1 - length bytes = omega (arith, end-at 0 n) in
+          g ∙ sym rest ∙ sym (simp (named-as b, less)) ∙ behind e
+
+      pub decided-way : d ≤ length bytes → 0 ≡ wanted bytes
+      decided-way l =
+          let there : ltb (length bytes) (decidedBy (sheetAt bytes 0)) ≡ false = le-ltb (length bytes) (decidedBy (sheetAt bytes 0)) (omega (arith, decides)) in
+          sym (simp (named-as b, there)) ∙ behind e
