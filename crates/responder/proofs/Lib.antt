@@ -10,5 +10,6 @@ pub mod PrefixLaws
 pub mod WantedLaws
 pub mod Order
 pub mod InputBound
+pub mod Needed
 pub mod AnswerBound
 pub mod Example
