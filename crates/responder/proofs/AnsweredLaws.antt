@@ -47,7 +47,7 @@ unfolding responseTo
 headless-way {bytes} space {r} head e = subst (λ a. Answered bytes a space) (sym e) (refusal space (sym (ap (λ f. responseBy f bytes) head)))
 
 module _ (bytes : List ℕ) {n m : ℕ} (head : recordAt Hd bytes 0 ≡ Record n m) (space : List ℕ) where
-  responds : sheetResponse n m bytes ≡ responseTo bytes
+  pub responds : sheetResponse n m bytes ≡ responseTo bytes
   unfolding responseTo
   responds = sym (ap (λ f. responseBy f bytes) head)
 

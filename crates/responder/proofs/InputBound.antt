@@ -49,13 +49,13 @@ module _ (bytes more : List ℕ) where
 
   -- ---- with more bytes behind, the head and the records that decide are as they were
 
-  head-stays : {n m : ℕ} → recordAt Hd bytes 0 ≡ Record n m → recordAt Hd all 0 ≡ Record n m
+  pub head-stays : {n m : ℕ} → recordAt Hd bytes 0 ≡ Record n m → recordAt Hd all 0 ≡ Record n m
   head-stays e = same-record bytes more Hd 0 (found-room Hd bytes 0 e) ∙ e
 
   long-stays : {m : ℕ} → IsLong bytes 0 m → IsLong all 0 m
   long-stays w = record { n = w .n; head = head-stays (w .head); long = w .long }
 
-  nows-stay : (n : ℕ) → goalsAt 0 n ≤ length bytes → nows all 0 n ≡ nows bytes 0 n
+  pub nows-stay : (n : ℕ) → goalsAt 0 n ≤ length bytes → nows all 0 n ≡ nows bytes 0 n
   nows-stay n h = same-entries bytes more Nw n n (nowsAt 0) (omega arith) h
 
   broken-stays : {m p : ℕ} → IsBroken bytes 0 m p → size Hd + p * size Nw ≤ length bytes → IsBroken all 0 m p
@@ -72,11 +72,17 @@ module _ (bytes more : List ℕ) where
           let same : goals all 0 (w .n) ≡ goals bytes 0 (w .n) = same-entries bytes more Gl (w .n) (suc d) (goalsAt 0 (w .n)) (omega arith) (omega (arith, ends)) in
           inr (record { nows-there = rw same-nows (f .nows-there); few = rw same (f .few); place = rw same (f .place) })
 
-  whole-stays : {n m e : ℕ} → IsWhole bytes 0 n m e → e ≤ length bytes → IsWhole all 0 n m e
+  pub whole-stays : {n m e : ℕ} → IsWhole bytes 0 n m e → e ≤ length bytes → IsWhole all 0 n m e
   whole-stays {n} w h =
       let same-nows : nows all 0 n ≡ nows bytes 0 n = nows-stay n (omega (arith, w .end)) in
       let same : goals all 0 n ≡ goals bytes 0 n = same-entries bytes more Gl n n (goalsAt 0 n) (omega arith) (omega (arith, w .end)) in
-      record { head = head-stays (w .head); small = w .small; nows-there = ap length same-nows ∙ w .nows-there; goals-there = ap length same ∙ w .goals-there; end = w .end }
+      record {
+        head = head-stays (w .head);
+        small = w .small;
+        nows-there = ap length same-nows ∙ w .nows-there;
+        goals-there = ap length same ∙ w .goals-there;
+        end = w .end;
+      }
 
   -- ---- and so is the answer
 
@@ -88,9 +94,11 @@ module _ (bytes more : List ℕ) where
     there : {n m d : ℕ} → recordAt Hd bytes 0 ≡ Record n m → IsMethod m → decidedBy (sheetAt bytes 0) ≡ d → d ≤ endAt 0 n + 1 → d ≤ length bytes
     unfolding wanted
     there {n} {m} {d} e i is l =
-        by (isMethod (methodOf m)) (to-true (method-reflects m) i) (ltb-reflects (length bytes) (decidedBy (sheetAt bytes 0))) (ap (λ f. wantedBy f bytes) (sym e) ∙ none)
+        by (isMethod (methodOf m)) (to-true (method-reflects m) i) (ltb-reflects (length bytes) (decidedBy (sheetAt bytes 0)))
+        (ap (λ f. wantedBy f bytes) (sym e) ∙ none)
       where
-        by : (t : Bool) {u : Bool} → t ≡ true → Reflects (length bytes < decidedBy (sheetAt bytes 0)) u → cond (t && u) (endAt 0 n + 1 - length bytes) 0 ≡ 0 → d ≤ length bytes
+        by : (t : Bool) {u : Bool} → t ≡ true → Reflects (length bytes < decidedBy (sheetAt bytes 0)) u → cond (t && u) (endAt 0 n + 1 - length bytes) 0 ≡ 0
+            → d ≤ length bytes
         by true f (holds h) z = omega (arith, h, is, l, z)
         by true f (fails h) z = omega (arith, h, is)
         by false f r z = absurd (false≢true f)

@@ -13,5 +13,6 @@ pub mod ReplyLaws
 pub mod PrefixLaws
 pub mod WantedLaws
 pub mod InputBound
+pub mod Needed
 pub mod AnswerBound
 pub mod Example

@@ -58,6 +58,20 @@ refusal-other : (k p : ℕ) → recordAt Pl (refusalBytes k p) 0 ≡ Missing
 unfolding markOf marks hasRecord recordAt recordBytes
 refusal-other k p = refl
 
+-- two refusals with the same bytes are one, and none is a plan
+pub refusal-same : {k p i j : ℕ} → refusalBytes k p ≡ refusalBytes i j → (k ≡ i) × (p ≡ j)
+refusal-same {k} {p} {i} {j} e =
+    let both : Record k p ≡ Record i j = sym (refusal-read k p) ∙ ap (λ l. recordAt No l 0) e ∙ refusal-read i j in
+    let number : k ≡ i = cc in
+    let place : p ≡ j = cc in
+    (number, place)
+
+pub plan-not-refusal : (c d : ℕ) (p : Plan) (k q : ℕ) → planBytes c d p ≡ refusalBytes k q → ⊥
+plan-not-refusal c d p k q e =
+    let both : Record c d ≡ Missing = sym (plan-read c d p) ∙ ap (λ l. recordAt Pl l 0) e ∙ refusal-other k q in
+    let z : _≡_ {A = ℕ} 0 1 = cc in
+    omega arith
+
 -- Lifts one after another, whatever stands before and behind them.
 lifts-back : (front : List ℕ) (p : Plan) (rest : List ℕ) → liftsAt (front ++ (moveBytes p ++ rest)) (length front) (length p) ≡ p
 unfolding liftsAt
@@ -165,11 +179,7 @@ module _ (bytes : List ℕ) (n : ℕ) (by : Method) (same : methodOf (numberOf b
           subst (λ j. TellsPlan bytes answer c j) changes (subst (λ i. TellsPlan bytes answer i (changed s g)) count tells-plan)
 
       other : (k q : ℕ) → answer ≡ refusalBytes k q → ⊥
-      other k q e =
-          let both : Record (length p) (changed s g) ≡ Missing =
-          sym (plan-read (length p) (changed s g) p) ∙ ap (λ l. recordAt Pl l 0) e ∙ refusal-other k q in
-          let z : _≡_ {A = ℕ} 0 1 = cc in
-          omega arith
+      other k q e = plan-not-refusal (length p) (changed s g) p k q e
 
 -- ---- a refusal
 
@@ -198,11 +208,7 @@ module _ (bytes : List ℕ) (k p : ℕ) (a : asked bytes ≡ no′ k p) where
           ap₂ refusalBytes number place
 
       from : (i j : ℕ) → refusalBytes k p ≡ refusalBytes i j → ProgramRefused bytes i j
-      from i j e =
-          let both : Record k p ≡ Record i j = sym (refusal-read k p) ∙ ap (λ l. recordAt No l 0) e ∙ refusal-read i j in
-          let number : k ≡ i = cc in
-          let place : p ≡ j = cc in
-          refusals .refuses bytes i j .0 (a ∙ ap₂ no′ number place)
+      from i j e = let same = refusal-same e in refusals .refuses bytes i j .0 (a ∙ ap₂ no′ (same .0) (same .1))
 
 -- ---- the theorem
 

@@ -1,11 +1,14 @@
--- How much of the input decides the answer, and how long an answer can be. Statements alone; `proofs/InputBound.antt` and
--- `proofs/AnswerBound.antt` prove them. Assumes nothing.
-use Prim.Native.Nat.{ℕ, _+_, _≤_}
+-- How much of the input decides the answer, and how long an answer can be. Statements alone; `proofs/InputBound.antt`,
+-- `proofs/Needed.antt` and `proofs/AnswerBound.antt` prove them. Assumes nothing.
+use Prim.Native.Nat.{ℕ, _+_, _*_, _≤_}
 use mathlib.Core.Path.{_≡_}
+use mathlib.Core.Logic.{_⊎_, _≢_}
 use mathlib.Core.List.{List, _++_}
 use lib.ListN.{length, take}
 use Rattle.blocks.specs.State.{most}
-use Rattle.sheets.specs.Sheets.{endAt}
+use Rattle.records.specs.Marks.{size}
+use Rattle.records.specs.declared.Kind.the-variants.{Nw}
+use Rattle.sheets.specs.Sheets.{nowsAt, endAt}
 use Rattle.responder.specs.Responses.{responseTo}
 use Rattle.responder.specs.Wanted.{wanted}
 use Rattle.responder.specs.Answers.{longest}
@@ -13,6 +16,19 @@ use Rattle.responder.specs.Answers.{longest}
 -- Where no more bytes are wanted, none that come change the answer.
 abbrev pub Decides : Type 0
 Decides = (bytes more : List ℕ) → wanted bytes ≡ 0 → responseTo (bytes ++ more) ≡ responseTo bytes
+
+-- A record ends at a place: none stands before it, or the head and i others.
+abbrev pub RecordEnds : ℕ → Type 0
+RecordEnds at = (at ≡ 0) ⊎ ((i : ℕ) × (at ≡ nowsAt 0 + i * size Nw))
+
+-- Some bytes that follow change the answer.
+pub record Undecided (bytes : List ℕ) : Type 0 where
+  pub more : List ℕ
+  pub other : responseTo (bytes ++ more) ≢ responseTo bytes
+
+-- Where a record ends, more bytes are wanted only while the answer is not decided.
+abbrev pub Needed : Type 0
+Needed = (bytes : List ℕ) → RecordEnds (length bytes) → wanted bytes ≢ 0 → Undecided bytes
 
 -- A byte more than the longest input without a tail.
 abbrev pub enough : ℕ
