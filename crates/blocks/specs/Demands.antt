@@ -1,4 +1,5 @@
--- The theorems, statements alone: the three demands, which the quotations are of, and what later work stands on. proofs/Theorems proves the whole record. Assumes nothing.
+-- The theorems, statements alone: the three demands (docs/SPECIFICATION.md), and what later work stands on. Quotations are of the demands, or of document 01
+-- where it is named. proofs/Theorems proves the whole record. Assumes nothing.
 -- Read `Problem` as a sheet that is accepted (questions 3 to 9; no bound on the number of blocks is needed), `Solves` as a legal list that arrives.
 use Prim.Native.Nat.{ℕ, _+_, _*_, _%_, _≤_, _<_}
 use mathlib.Core.Path.{_≡_}
@@ -53,7 +54,7 @@ pub record Shown (s g : State) (blocks pairs : List ℕ) : Type 0 where
   pub deadlock : Deadlock s g (length blocks) (λ i. getD blocks i 0) d
   pub slab : (i : ℕ) → i < length blocks → getD pairs (2 * i) 0 ≡ getD blocks i 0
   pub beside : (i : ℕ) → i < length blocks → getD pairs (2 * i + 1) 0 ≡ d (next (length blocks) i)
-  -- "written from its lowest number onward"
+  -- document 01: "written from its lowest number onward"
   pub lowest : (i : ℕ) → i < length blocks → getD blocks 0 0 ≤ getD blocks i 0
 
 pub record Theorems : Type 0 where
