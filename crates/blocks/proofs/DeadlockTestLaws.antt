@@ -26,10 +26,10 @@ use Rattle.blocks.proofs.StepLaws.{builds-constructive}
 use Rattle.blocks.proofs.MethodLaws.{building-runs, enough}
 
 -- the run of constructive moves to the built state
-abbrev Building : State → State → Plan → Type 0
+abbrev pub Building : State → State → Plan → Type 0
 Building g s p = Run (λ t. Problem t g) (Builds g) (λ t. NoneReady t g) s p
 
-built-run : {s g : State} → Problem s g → (p : Plan) × (built s g ≡ after s p) × Building g s p
+pub built-run : {s g : State} → Problem s g → (p : Plan) × (built s g ≡ after s p) × Building g s p
 unfolding built
 built-run {s} {g} p = let r = building-runs _ s g p (enough p) in (r .0, ap (endOf s) (r .1), r .2)
 
@@ -54,7 +54,7 @@ built-is {s} {g} p = let r = built-run p in subst (Built s g) (sym (r .1)) (at (
 
 -- ---- the pairs
 
-pairs-at : (s g : State) (l : List ℕ) (i : ℕ) → i < length l
+pub pairs-at : (s g : State) (l : List ℕ) (i : ℕ) → i < length l
     → (getD (blockedPairs s g l) (2 * i) 0 ≡ getD l i 0) × (getD (blockedPairs s g l) (2 * i + 1) 0 ≡ blocker s g (getD l i 0))
 unfolding blockedPairs
 pairs-at s g [] i h = absurd (omega arith)

@@ -16,6 +16,7 @@ pub mod RunLaws
 pub mod StepLaws
 pub mod MethodLaws
 pub mod DeadlockTestLaws
+pub mod DeadlockToldLaws
 pub mod QuestionLaws
 pub mod DecidedLaws
 pub mod ReplayLaws

@@ -41,7 +41,7 @@ member-reflects x (y ∷ l) = reflects-iff into out (reflects-or (eqb-reflects x
     out : On (y ∷ l) x → (x ≡ y) ⊎ On l x
     out m = at (m .0) (m .1) (m .2)
 
-member-append : (x : ℕ) (l m : List ℕ) → memberᵇ x (l ++ m) ≡ (memberᵇ x l || memberᵇ x m)
+pub member-append : (x : ℕ) (l m : List ℕ) → memberᵇ x (l ++ m) ≡ (memberᵇ x l || memberᵇ x m)
 member-append x [] m = refl
 member-append x (y ∷ l) m = ap (λ t. eqb x y || t) (member-append x l m) ∙ sym (or-assoc (eqb x y) (memberᵇ x l) (memberᵇ x m))
 
@@ -252,7 +252,7 @@ loop-short p still m = let r = loop-returns p still m in omega (arith, ap length
 
 -- ---- from its lowest number onward
 
-lowest-member : {s g : State} {l : List ℕ} → Problem s g → IsLoop s g l → memberᵇ (lowestOf s l) l ≡ true
+pub lowest-member : {s g : State} {l : List ℕ} → Problem s g → IsLoop s g l → memberᵇ (lowestOf s l) l ≡ true
 unfolding lowestOf
 lowest-member {s} {g} {l} p c =
     let k = misplaced-block (p .same) (c .waiting 0 (c .some) .0) in
@@ -289,7 +289,7 @@ pub onward-first : {s g : State} {l : List ℕ} → Problem s g → IsLoop s g l
 onward-first p c = sym (walk-first (onward-walk p c) (onward-some c))
 
 -- it has the same blocks, so none is below its first
-onward-members : (s : State) (l : List ℕ) (x : ℕ) → memberᵇ x (onward s l) ≡ memberᵇ x l
+pub onward-members : (s : State) (l : List ℕ) (x : ℕ) → memberᵇ x (onward s l) ≡ memberᵇ x l
 unfolding onward
 onward-members s l x =
     let m = lowestOf s l in

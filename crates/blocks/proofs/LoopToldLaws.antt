@@ -84,7 +84,7 @@ loop-last {l = l} a =
     ap (λ i. getD (visited a) i 0) behind ∙ getD-append-add (a .way) l (pred (length l)) 0
 
 -- a block of a list without repetition has one place
-one-place : (v : List ℕ) → Once v → (i j : ℕ) → i < length v → j < length v → getD v i 0 ≡ getD v j 0 → i ≡ j
+pub one-place : (v : List ℕ) → Once v → (i j : ℕ) → i < length v → j < length v → getD v i 0 ≡ getD v j 0 → i ≡ j
 one-place v once i j h k e =
     let below : ¬ (i < j) = λ l. once i j l k e in
     let above : ¬ (j < i) = λ l. once j i l h (sym e) in

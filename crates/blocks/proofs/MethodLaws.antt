@@ -320,19 +320,37 @@ module _ {g : State} (putDown : State → State → ℕ) (PutsDown : State → S
       solving-only
       (λ t a x i e w. e a (moves-misplaced (moves-of putDown PutsDown chooses t a x i w)))
 
+-- runs of constructive moves: where they lead to is a problem, and there is one
+module _ {s g : State} {p : Plan} (i : Problem s g) (v : Steps (Builds g) (λ t. NoneReady t g) s p) where
+  keeps : (t : State) (a x : ℕ) → Problem t g → Builds g t a x → Problem (put t a x) g
+  keeps t a x j k = problem-moved (builds-constructive k .legal) j
+
+  pub building-kept : Problem (after s p) g
+  building-kept = steps-kept (λ t. Problem t g) (Builds g) (λ t. NoneReady t g) keeps i v
+
+  pub building-only : {q : Plan} → Steps (Builds g) (λ t. NoneReady t g) s q → p ≡ q
+  building-only =
+      steps-only (λ t. Problem t g) (Builds g) (λ t. NoneReady t g) keeps (λ t a b x y j k l. builds-only k l) (λ t a x j e k. e a (k .lowest .holds)) i v
+
+-- and likewise of put-downs
+module _ {s g : State} {p : Plan} (i : Problem s g) (v : Steps (Clears g) (λ t. (b : ℕ) → ¬ Perched t g b) s p) where
+  clears-keeps : (t : State) (a x : ℕ) → Problem t g → Clears g t a x → Problem (put t a x) g
+  clears-keeps t a x j k = problem-moved (moves-legal j (clears-moves k)) j
+
+  clearing-kept : Problem (after s p) g
+  clearing-kept = steps-kept (λ t. Problem t g) (Clears g) (λ t. (b : ℕ) → ¬ Perched t g b) clears-keeps i v
+
+  clearing-only : {q : Plan} → Steps (Clears g) (λ t. (b : ℕ) → ¬ Perched t g b) s q → p ≡ q
+  clearing-only =
+      steps-only (λ t. Problem t g) (Clears g) (λ t. (b : ℕ) → ¬ Perched t g b) clears-keeps (λ t a b x y j k l. clears-only k l)
+      (λ t a x j e k. e a (k .lowest .holds)) i v
+
 us-only : {s g : State} {p q : Plan} → Problem s g → ByUs s g p → ByUs s g q → p ≡ q
 us-only {s} {g} {p} {q} i v w =
-    let front : v .first ≡ w .first = steps-only (λ t. Problem t g) (Clears g) (λ t. (b : ℕ) → ¬ Perched t g b) keeps
-    (λ t a b x y j k l. clears-only k l) (λ t a x j e k. e a (k .lowest .holds)) i (v .clearing) (w .clearing) in
-    let mid : Problem (after s (v .first)) g = steps-kept (λ t. Problem t g) (Clears g) (λ t. (b : ℕ) → ¬ Perched t g b) keeps i (v .clearing) in
-    let back : v .then ≡ w .then = steps-only (λ t. Problem t g) (Builds g) (λ t. NoneReady t g)
-    (λ t a x j k. problem-moved (builds-constructive k .legal) j)
-    (λ t a b x y j k l. builds-only k l) (λ t a x j e k. e a (k .lowest .holds)) mid (v .building)
-    (subst (λ r. Steps (Builds g) (λ t. NoneReady t g) (after s r) (w .then)) (sym front) (w .building)) in
+    let front : v .first ≡ w .first = clearing-only i (v .clearing) (w .clearing) in
+    let there = subst (λ r. Steps (Builds g) (λ t. NoneReady t g) (after s r) (w .then)) (sym front) (w .building) in
+    let back : v .then ≡ w .then = building-only (clearing-kept i (v .clearing)) (v .building) there in
     v .whole ∙ ap (λ r. r ++ v .then) front ∙ ap (λ r. w .first ++ r) back ∙ sym (w .whole)
-  where
-    keeps : (t : State) (a x : ℕ) → Problem t g → Clears g t a x → Problem (put t a x) g
-    keeps t a x j k = problem-moved (moves-legal j (clears-moves k)) j
 
 pub method-only : (m : Method) {s g : State} {p q : Plan} → Problem s g → By m s g p → By m s g q → p ≡ q
 method-only Us i v w = us-only i v w

@@ -11,7 +11,7 @@ use Rattle.blocks.specs.Position.{Proper, Problem, InPosition, Misplaced
 use Rattle.blocks.specs.Tests.{load}
 use Rattle.blocks.specs.Loop.{lastMisplaced, blocker, top, successor}
 use Rattle.blocks.specs.Stall.{NoneReady, Waiting}
-use Rattle.blocks.specs.Steps.{Foot, ClearAbove, Successor, free, covered}
+use Rattle.blocks.specs.Steps.{Foot, InTheWay, onto, under, Successor}
 use Rattle.lists.proofs.ReflectLaws.{Reflects, holds, fails}
 use Rattle.blocks.proofs.StateLaws.{down-suc, down-table}
 use Rattle.blocks.proofs.TowerLaws.{Reaches, clear-unique}
@@ -126,20 +126,19 @@ module _ {s g : State} (p : Problem s g) where
           subst (InPosition s g) (p .goal .carries y d there (λ z. u .block (sym there ∙ z))) (position-beneath i (u .steps))
 
   -- the blocker of b is in its way: d where c is clear, else c
-  blocker-blocks : NoneReady s g → (b : ℕ) → Waiting s g b → Blocks b (blocker s g b) × Successor s g b (top s (length s) (blocker s g b))
+  blocker-blocks : NoneReady s g → (b : ℕ) → Waiting s g b → Blocks b (blocker s g b) × InTheWay s g b (blocker s g b)
   unfolding blocker
   blocker-blocks still b w = go (clear-test s (support g d)) (last-foot b (w .0))
     where
       d : ℕ
       d = lastMisplaced s g (length s) b
 
-      go : {t : Bool} → Reflects (Clear s (support g d)) t → LastOf b d → Blocks b (cond t d (support g d)) × Successor s g b (top s (length s) (cond t d (support g d)))
-      go (holds c) f =
-          let k = misplaced-blocks b d (w .1) (f .0) (λ v. still d (ready-constructive p (f .0, v) c (f .1 .position))) (f .1 .steps, f .1 .last) in
-          (k, free (support g d) d (f .1) c (record { clear = k .0 .1; above = k .1 }))
-      go (fails n) f =
-          let k = support-blocks b d (f .0) n (f .1 .steps, f .1 .last) in
-          (k, covered (support g d) d (f .1) n (record { clear = k .0 .1; above = k .1 }))
+      go : {t : Bool} → Reflects (Clear s (support g d)) t → LastOf b d → Blocks b (cond t d (support g d)) × InTheWay s g b (cond t d (support g d))
+      go (holds c) f = (
+        misplaced-blocks b d (w .1) (f .0) (λ v. still d (ready-constructive p (f .0, v) c (f .1 .position))) (f .1 .steps, f .1 .last),
+        onto (support g d) (f .1) c,
+      )
+      go (fails n) f = (support-blocks b d (f .0) n (f .1 .steps, f .1 .last), under d (f .1) n)
 
   -- the successor is misplaced and clear, above the blocker now, and b is above the blocker in the goal
   pub successor-waits : NoneReady s g → (b : ℕ) → Waiting s g b →
@@ -147,10 +146,14 @@ module _ {s g : State} (p : Problem s g) where
   unfolding successor
   successor-waits still b w = blocker-blocks still b w .0
 
-  -- it is the successor of document 01's words
+  -- both are those of document 01's words
+  pub blocker-told : NoneReady s g → (b : ℕ) → Waiting s g b → InTheWay s g b (blocker s g b)
+  blocker-told still b w = blocker-blocks still b w .1
+
   pub successor-told : NoneReady s g → (b : ℕ) → Waiting s g b → Successor s g b (successor s g b)
-  unfolding successor
-  successor-told still b w = blocker-blocks still b w .1
+  successor-told still b w =
+      let k = successor-waits still b w in
+      record { through = blocker s g b; way = blocker-told still b w; clear = k .0 .1; above = k .1 }
 
 -- ---- the words leave no choice
 
@@ -168,12 +171,14 @@ foot-only {s} {g} {b} f h =
     let ds = sym (f .last) ∙ ap (λ k. down g k b) same ∙ h .last in
     (sym (f .rests) ∙ ap (support g) ds ∙ h .rests, ds)
 
-above-only : {s : State} → Proper s → {x x′ y z : ℕ} → x ≡ x′ → ClearAbove s x y → ClearAbove s x′ z → y ≡ z
-above-only p {x} {x′} {y} {z} e a b =
-    clear-unique p y z x (suc (a .above .steps)) (suc (b .above .steps)) (a .clear) (b .clear) (a .above .reaches) (b .above .reaches ∙ sym e) (a .above .block)
+pub way-only : {s g : State} {b x y : ℕ} → InTheWay s g b x → InTheWay s g b y → x ≡ y
+way-only (onto c f w) (onto c′ f′ w′) = foot-only f f′ .1
+way-only {s} (onto c f w) (under d′ f′ n) = absurd (n (subst (Clear s) (foot-only f f′ .0) w))
+way-only {s} (under d f n) (onto c′ f′ w) = absurd (n (subst (Clear s) (sym (foot-only f f′ .0)) w))
+way-only (under d f n) (under d′ f′ n′) = foot-only f f′ .0
 
 pub successor-only : {s g : State} → Proper s → {b y z : ℕ} → Successor s g b y → Successor s g b z → y ≡ z
-successor-only p (free c d f w a) (free c′ d′ f′ w′ a′) = above-only p (foot-only f f′ .1) a a′
-successor-only {s} p (free c d f w a) (covered c′ d′ f′ n a′) = absurd (n (subst (Clear s) (foot-only f f′ .0) w))
-successor-only {s} p (covered c d f n a) (free c′ d′ f′ w a′) = absurd (n (subst (Clear s) (sym (foot-only f f′ .0)) w))
-successor-only p (covered c d f n a) (covered c′ d′ f′ n′ a′) = above-only p (foot-only f f′ .0) a a′
+successor-only p {b} {y} {z} v w =
+    let u = v .above in
+    let a = w .above in
+    clear-unique p y z (v .through) (suc (u .steps)) (suc (a .steps)) (v .clear) (w .clear) (u .reaches) (a .reaches ∙ way-only (w .way) (v .way)) (u .block)

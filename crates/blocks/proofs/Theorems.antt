@@ -26,6 +26,7 @@ use Rattle.blocks.proofs.LoopLaws as loops
 use Rattle.blocks.proofs.LoopToldLaws as told
 use Rattle.blocks.proofs.MethodLaws.{Written, method-written, method-only, method-told}
 use Rattle.blocks.proofs.DeadlockTestLaws as deadlocks
+use Rattle.blocks.proofs.DeadlockToldLaws as words
 use Rattle.blocks.proofs.FlatLaws as flats
 use Rattle.blocks.proofs.DecidedLaws as rows
 use Rattle.blocks.proofs.ReplayLaws as replays
@@ -127,6 +128,7 @@ theorems =
       loop-closed = λ s g p h b m. loops.loop-closed p h m;
       deadlock-none = λ s g p. deadlocks.deadlock-none p;
       deadlock-shown = λ s g p. deadlocks.deadlock-shown p;
+      deadlock-told = words.deadlock-told;
       deadlock-fits = deadlocks.deadlock-fits;
       demand = demand;
       written-solves = answers.written-solves;

@@ -1,6 +1,6 @@
--- The three methods in plain words: what each does next and where it ends (document 01, "The three methods", "The loop"). Method computes the same lists:
--- `methods` and `loop-told` of Demands. Assumes nothing.
-use Prim.Native.Nat.{ℕ, suc, pred, _≤_, _<_}
+-- The three methods and the deadlock test in plain words: what each does next and where it ends (document 01, "The three methods", "The loop"). Method
+-- computes the same lists: `methods`, `loop-told` and `deadlock-told` of Demands. Assumes nothing.
+use Prim.Native.Nat.{ℕ, suc, pred, _+_, _*_, _≤_, _<_}
 use mathlib.Core.Path.{_≡_}
 use mathlib.Core.Logic.{_≢_}
 use mathlib.Core.List.{List, [], _∷_, _++_}
@@ -40,15 +40,17 @@ pub record Foot (s g : State) (b c d : ℕ) : Type 0 where
   pub position : InPosition s g c
   pub first : (i : ℕ) → 1 ≤ i → i ≤ steps → Misplaced s g (down g i b)
 
--- y is "the clear slab above" x now.
-pub record ClearAbove (s : State) (x y : ℕ) : Type 0 where
-  pub clear : Clear s y
-  pub above : Above s y x
+-- x is "the slab through which its successor is in its way (c when c is not clear, else d)", of b.
+pub data InTheWay (s g : State) (b x : ℕ) : Type 0 where
+  onto : (c : ℕ) → Foot s g b c x → Clear s c → InTheWay s g b x
+  under : (d : ℕ) → Foot s g b x d → ¬ Clear s x → InTheWay s g b x
 
 -- "When c is clear the successor of b is the clear slab above d now; otherwise the clear slab above c now."
-pub data Successor (s g : State) (b y : ℕ) : Type 0 where
-  free : (c d : ℕ) → Foot s g b c d → Clear s c → ClearAbove s d y → Successor s g b y
-  covered : (c d : ℕ) → Foot s g b c d → ¬ Clear s c → ClearAbove s c y → Successor s g b y
+pub record Successor (s g : State) (b y : ℕ) : Type 0 where
+  pub through : ℕ
+  pub way : InTheWay s g b through
+  pub clear : Clear s y
+  pub above : Above s y through
 
 -- Blocks in the order visited: the next of each is its successor, and none comes twice.
 pub record Visits (s g : State) (l : List ℕ) : Type 0 where
@@ -106,3 +108,26 @@ abbrev pub By : Method → State → State → Plan → Type 0
 By Us s g p = ByUs s g p
 By Gn1 s g p = Steps (Solving Clears g) (NoneMisplaced g) s p
 By Gn2 s g p = Steps (Solving Unlocks g) (NoneMisplaced g) s p
+
+-- ---- the deadlock test
+
+-- The loop "from its lowest number onward": its part from there on comes first.
+pub record Onward (s g : State) (l : List ℕ) : Type 0 where
+  pub front : List ℕ
+  pub back : List ℕ
+  pub loop : LoopOf s g (front ++ back)
+  pub some : 1 ≤ length back
+  pub turned : l ≡ back ++ front
+  pub lowest : Lowest (On l) (length s) (getD l 0 0)
+
+-- Written "as pairs: the slab, and the slab through which its successor is in its way".
+pub record Pairs (s g : State) (l pairs : List ℕ) : Type 0 where
+  pub size : length pairs ≡ 2 * length l
+  pub slab : (i : ℕ) → i < length l → getD pairs (2 * i) 0 ≡ getD l i 0
+  pub way : (i : ℕ) → i < length l → InTheWay s g (getD l i 0) (getD pairs (2 * i + 1) 0)
+
+-- It "makes constructive lifts, as in method 2, on a copy of the yard until none is left. No misplaced slab left: the answer is none, count 0. Otherwise
+-- the count is the length of the loop, and the loop is written".
+pub data Tests (s g : State) (l pairs : List ℕ) : Type 0 where
+  none : (p : Plan) → Steps (Builds g) (λ t. NoneReady t g) s p → NoneMisplaced g (after s p) → l ≡ [] → pairs ≡ [] → Tests s g l pairs
+  found : (p : Plan) → Steps (Builds g) (λ t. NoneReady t g) s p → Stalled (after s p) g → Onward (after s p) g l → Pairs (after s p) g l pairs → Tests s g l pairs

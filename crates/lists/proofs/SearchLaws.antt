@@ -1,6 +1,6 @@
 -- Laws of `lowest` and `count`: what callers know of searching and counting over 1 to n. Assumes nothing.
 use mathlib.Core.Path.{_≡_, refl, sym, ap, _∙_, subst}
-use mathlib.Core.Logic.{_⊎_, inl, inr, _≢_}
+use mathlib.Core.Logic.{_⊎_, inl, inr, _≢_, _↔_}
 use mathlib.Core.Bool.{Bool, true, false, true≢false, false≢true}
 use Prim.Native.Nat.{ℕ, zero, suc, _+_, _≤_, _<_}
 use native.Mathlib.Omega.{arith}
@@ -119,6 +119,10 @@ lowest-only {A} {n} {a} {b} v w =
     let no-lower : ¬ (a < b) = λ h. w .first a (v .low) h (v .holds) in
     let no-higher : ¬ (b < a) = λ h. v .first b (w .low) h (w .holds) in
     omega (arith, no-lower, no-higher)
+
+-- and it is the lowest of a kind by another name
+pub lowest-alike : {A B : ℕ → Type 0} {n b : ℕ} → ((c : ℕ) → A c ↔ B c) → Lowest A n b → Lowest B n b
+lowest-alike {A} {B} {n} {b} same w = record { low = w .low; high = w .high; holds = same b .0 (w .holds); first = λ c l h k. w .first c l h (same c .1 k) }
 
 -- ---- count
 
