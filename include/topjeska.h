@@ -1,4 +1,4 @@
-/* Topjeska: planning for restacking slabs, by the rules of document 01.
+/* Topjeska: planning for restacking slabs, by the rules of docs/SPECIFICATION.md.
  *
  * An arrangement of n slabs is a list of n numbers: entry i - 1 says what slab i rests on, 0 for the
  * ground. A list is lent as a pointer and a length. The pointer is to as many numbers as the length
@@ -40,7 +40,7 @@ typedef struct {
  * the place counts the lifts from 1: 1 the slab is not 1 to n or the destination is above n, 2 the
  * slab is not clear, 3 it already rests there, 4 the destination is the slab itself or not clear.
  * 5: every lift is legal and the end is not the goal; the place is the lowest slab that differs.
- * 0: the list arrives. */
+ * 0: the list arrives, and the place is 0. */
 typedef struct {
     uint64_t refusal, verdict, place;
 } topjeska_replay_answer;

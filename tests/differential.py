@@ -14,6 +14,7 @@ import itertools
 import mmap
 import os
 import random
+import re
 import signal
 import subprocess
 import sys
@@ -338,6 +339,9 @@ def given(trial: Trial, lines: Iterable[str]) -> None:
             numbers = (numbers[0], NO_VERDICT, numbers[1]) if len(numbers) == 2 else (0, *numbers[2:])
         stated = Answer(numbers, paired(numbers_of((pairs.split() or ["-"])[0])))
         hold(trial, case, stated)
+        if shortest := re.search(r"shortest=(\d+)", pairs):
+            fewest, count = int(shortest[1]), stated.numbers[2]
+            trial.count(fewest <= count <= 2 * fewest, case, lambda: f"{count} lifts, where {fewest} are the fewest")
         checked = stated_check(case, stated)
         if checked:
             hold(trial, checking(case.now, case.goal), checked)

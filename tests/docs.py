@@ -1,6 +1,6 @@
 """Holds the pages of docs/ to what they speak of, and runs the tests of the tools.
 
-docs/WHY.md: each theorem or law stands in the lines that the page names, each sheet has the lists and counts that the
+crates/: each statement of specs/ has a proof in proofs/ of its crate. docs/WHY.md: each theorem or law stands in the lines that the page names, each sheet has the lists and counts that the
 page states (by reading.py), each picture is what tools/draw makes of its sheet. docs/DEMANDS.md: each file, definition,
 function and must-fail edit that it names exists. The tests of the tools are those of commands.py.
 With --write it corrects the line numbers of docs/WHY.md and draws the pictures again.
@@ -31,6 +31,7 @@ NAMES = r"[^\s(){}]+(?: [^\s(){}]+)*"
 DECLARED = re.compile(rf"( *)((?:(?:unfoldable|abbrev|pub) )*)(?:(record|data) (\S+) .*|({NAMES}) : .*)")
 TICKED = re.compile(r"`([^`]+)`")
 LIFT = re.compile(r"(\d+)→(\d+)")
+STATED = re.compile(r"^(?:abbrev pub (\S+)|pub record (\S+)) : Type 0(?: where)?\n((?:.+\n)+)", re.MULTILINE)
 
 
 def text_of(path: Path) -> str:
@@ -345,6 +346,32 @@ def demands() -> Iterator[Test]:
             yield f"DEMANDS.md:{number}", f"does not exist: {', '.join(wrong)}" if wrong else ""
 
 
+def statements(text: str) -> Iterator[str]:
+    """The types without parameters that state something: an equation, a bound or what follows from what."""
+    for match in STATED.finditer(text):
+        if re.search("[≡≤→]", match[3]):
+            yield match[1] or match[2]
+
+
+def proved() -> Iterator[Test]:
+    """Each statement of a crate is the type of something public in its proofs."""
+    for specs in sorted(ROOT.glob("crates/*/specs")):
+        laws = "\n".join(text_of(file) for file in sorted(specs.with_name("proofs").rglob("*.antt")))
+        for file in sorted(specs.glob("*.antt")):
+            for name in statements(text_of(file)):
+                there = re.search(rf"^ *pub \S+ : {re.escape(name)}$", laws, re.MULTILINE)
+                yield f"{name} of {file.relative_to(ROOT)}", "" if there else "has no proof"
+
+
+def waiting() -> Iterator[Test]:
+    """The sheet of the belief that a stalled slab is deadlocked: three are clear and misplaced, two in a deadlock."""
+    now, goal = rows()["waits"].sheet()
+    stalled = [slab for slab in reading.misplaced(now, goal) if reading.clear(now, slab)]
+    ringed = reading.ringed(now, goal)
+    wrong = (stalled, reading.constructive(now, goal), ringed) != ([1, 2, 4], 0, [2, 4])
+    yield "WHY.md, who waits and who is deadlocked", f"{stalled} wait, {ringed} are deadlocked" if wrong else ""
+
+
 def main() -> int:
     """Runs all tests, or with --write corrects the page's line numbers and draws its pictures first."""
     if sys.argv[1:] == ["--write"]:
@@ -354,7 +381,7 @@ def main() -> int:
             if made:
                 (PICTURES / f"{name}.svg").write_text(made, encoding="utf-8")
     of_tools = commands.tests({name: row.typed() for name, row in rows().items()})
-    done = list(itertools.chain(references(), page_sheets(), pictures(), demands(), of_tools))
+    done = list(itertools.chain(proved(), references(), page_sheets(), waiting(), pictures(), demands(), of_tools))
     for what, wrong in done:
         if wrong:
             print(f"{what}: {wrong}")

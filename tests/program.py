@@ -2,7 +2,7 @@
 
 What it should write comes from document 01's question 12 read literally here, and from the plans of
 reading.py; full yards take their plans from the closed forms of sheets.py. Each run has 512 KiB of stack.
-An input whose answer is decided is answered within a second, though it never ends or is not closed.
+An input whose records decide the answer is answered within a second, though it never ends or is not closed.
 """
 
 import os

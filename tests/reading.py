@@ -295,6 +295,23 @@ def deadlocked(now: Yard, goal: Yard) -> bool:
         left = waits
 
 
+def ringed(now: Yard, goal: Yard) -> list[int]:
+    """The slabs that are in some deadlock: those from which such steps lead back to themselves."""
+    left = misplaced(now, goal)
+    steps = {b: [o for o in left if set(beneath(goal, b)) & set(beneath(now, o))] for b in left}
+    found = []
+    for slab in left:
+        met: set[int] = set()
+        ahead = list(steps[slab])
+        while ahead:
+            other = ahead.pop()
+            if other not in met:
+                met.add(other)
+                ahead += steps[other]
+        found += [slab] * (slab in met)
+    return found
+
+
 def shows_deadlock(now: Yard, goal: Yard, pairs: Sequence[Pair]) -> bool:
     """Whether the slabs of some pairs are deadlocked, each with the next one's d beside it."""
     if not pairs or any(slab not in slabs(now) for slab, _ in pairs):

@@ -6,7 +6,7 @@ use mathlib.Core.Option.{Option, none, some}
 use Prim.Native.Nat.{ℕ, _+_, _*_, _%_, _≤_}
 use native.Mathlib.Omega.{arith}
 use lib.ListN.{length, take, drop}
-use lib.Seq.{take-append-seam}
+use lib.Seq.{take-append-seam, take-at}
 use Rattle.blocks.specs.State.{State}
 use Rattle.blocks.specs.Position.{Problem, Accepted}
 use Rattle.blocks.specs.Move.{Plan, Solves}
@@ -15,16 +15,17 @@ use Rattle.blocks.specs.Loop.{memberᵇ}
 use Rattle.blocks.specs.Method.{Method, Us, Gn1, Gn2, plan, outcome, built, deadlockLoop, deadlockPairs, methodOf, numberOf, outcomeBy, planOf, planOutcome}
 use Rattle.blocks.specs.Question.{Question, Asked, allYes, no′, firstNo, AllYes, FirstNo, IsMethod, asksMethod, asksSize, asksRoom, asksEven, asksPlan}
 use Rattle.blocks.specs.Question.{problemQuestions, planQuestions, deadlockQuestions, replayQuestions, Refused, PlanRefused, DeadlockRefused}
-use Rattle.blocks.specs.Steps.{By}
+use Rattle.blocks.specs.Steps.{By, ByTest}
 use Rattle.blocks.specs.Replay.{Replayed}
 use Rattle.blocks.specs.Answer.{flat, moves, checked, checkAnswer, planned, written, PlanAnswer, planAnswer, planSpace}
 use Rattle.blocks.specs.Answer.{tested, deadlockAnswer, deadlockSpace, replayed, replayFrom, replayAnswer}
 use Rattle.blocks.specs.Sheets.{Limits}
 use Rattle.blocks.proofs.MethodLaws.{method-written}
 use Rattle.blocks.proofs.DeadlockTestLaws.{pairs-length}
+use Rattle.blocks.proofs.DeadlockToldLaws.{deadlock-told}
 use Rattle.blocks.proofs.FlatLaws.{length-flat, pairs-back}
 use Rattle.blocks.proofs.QuestionLaws.{first-no, sentence-append, other-number}
-use Rattle.blocks.proofs.DecidedLaws.{problem-order, replay-order, problem-yes, then-yes, accepts, refuses}
+use Rattle.blocks.proofs.DecidedLaws.{problem-order, problem-yes, then-yes, accepts, refuses}
 use Rattle.blocks.proofs.ReplayLaws.{replay-verdict, replay-arrives}
 use Rattle.blocks.proofs.AnswerLaws.{plan-decides, plan-refusal, deadlock-decides, deadlock-refusal, replay-decides, replay-refuses, replay-refusal}
 
@@ -110,6 +111,10 @@ plan-answers m s g space a h p e = (
     yes-all : firstNo (planQuestions (numberOf m) s g space) ≡ allYes
     yes-all = plan-accepts (numberOf m) s g space .1 (is-method m, a, h)
 
+pairs-size : (s g : State) → length (deadlockPairs s g) ≡ 2 * length (deadlockLoop s g)
+unfolding deadlockPairs
+pairs-size s g = pairs-length (built s g) g (deadlockLoop s g)
+
 pub deadlock-answers : (s g : State) (space : List ℕ) → Accepted s g → 2 * length s ≤ length space
     → (deadlockAnswer s g space ≡ record { number = 0; place = 0; count = length (deadlockLoop s g) })
     × (deadlockSpace s g space ≡ deadlockPairs s g ++ drop (2 * length (deadlockLoop s g)) space)
@@ -117,7 +122,7 @@ unfolding deadlockAnswer deadlockSpace deadlockPairs
 deadlock-answers s g space a h = (
   ap (λ v. tested v (deadlockLoop s g)) yes-all,
   ap (λ v. written v (deadlockPairs s g) space) yes-all
-      ∙ ap (λ k. deadlockPairs s g ++ drop k space) (pairs-length (built s g) g (deadlockLoop s g)),
+      ∙ ap (λ k. deadlockPairs s g ++ drop k space) (pairs-size s g),
 )
   where
     yes-all : firstNo (deadlockQuestions s g space) ≡ allYes
@@ -181,6 +186,19 @@ module _ (m : Method) (s g : State) (space : List ℕ) (a : Accepted s g) (h : 4
   pub written-told : By m s g (moves (take (2 * (planAnswer (numberOf m) s g space) .count) (planSpace (numberOf m) s g space)))
   unfolding written-list
   written-told = subst (By m s g) (sym written-is) (method-written m s g (a .problem) .2 .told)
+
+-- and so are the pairs of the deadlock test
+pub deadlock-written : (s g : State) (space : List ℕ) → Accepted s g → 2 * length s ≤ length space
+    → (l : List ℕ) × (length l ≡ (deadlockAnswer s g space) .count) × ByTest s g l (take (2 * (deadlockAnswer s g space) .count) (deadlockSpace s g space))
+deadlock-written s g space a h =
+    let r = deadlock-answers s g space a h in
+    let l = deadlockLoop s g in
+    let count : length l ≡ (deadlockAnswer s g space) .count = sym (ap (λ o. o .count) (r .0)) in
+    let size : length (deadlockPairs s g) ≡ 2 * length l = pairs-size s g in
+    let front : take (2 * length l) (deadlockPairs s g ++ drop (2 * length l) space) ≡ deadlockPairs s g = take-at (deadlockPairs s g) (drop (2 * length l) space) (2 * length l) size in
+    let same : take (2 * (deadlockAnswer s g space) .count) (deadlockSpace s g space) ≡ deadlockPairs s g =
+    ap₂ (λ c k. take (2 * c) k) (sym count) (r .1) ∙ front in
+    (l, count, subst (ByTest s g l) (sym same) (deadlock-told s g (a .problem) l (deadlockPairs s g) .0 (refl, refl)))
 
 -- ---- the limits of sheets and of the lent space
 

@@ -17,7 +17,7 @@ use Rattle.blocks.specs.Tests.{misplacedCount}
 use Rattle.blocks.specs.Loop.{memberᵇ, from, before, loop, lowestOf, onward, blockedPairs}
 use Rattle.blocks.specs.Method.{deadlockLoop, deadlockPairs}
 use Rattle.blocks.specs.Stall.{IsLoop}
-use Rattle.blocks.specs.Steps.{On, LoopOf, InTheWay, NoneMisplaced, Stalled, Onward, Pairs, Tests, none, found}
+use Rattle.blocks.specs.Steps.{On, LoopOf, InTheWay, NoneMisplaced, Stalled, Onward, Pairs, ByTest, none, found}
 use Rattle.lists.proofs.ReflectLaws.{Reflects, holds, fails, from-true, to-true, same?, eqb-reflects}
 use Rattle.lists.proofs.SearchLaws.{lowest-only, lowest-alike}
 use Rattle.blocks.proofs.MisplacedLaws.{none-misplaced, some-misplaced}
@@ -67,7 +67,7 @@ module _ {t g : State} (p : Problem t g) (h : Stalled t g) where
             subst (InTheWay t g (getD l i 0)) (sym (pairs-at t g l i k .1)) (blocker-told p (h .none-ready) (getD l i 0) (onward-closed p closed .waiting i k));
       }
 
-built-told : {s g : State} (q : Plan) → Building g s q → Tests s g (loopAt (after s q) g) (blockedPairs (after s q) g (loopAt (after s q) g))
+built-told : {s g : State} (q : Plan) → Building g s q → ByTest s g (loopAt (after s q) g) (blockedPairs (after s q) g (loopAt (after s q) g))
 unfolding blockedPairs
 built-told {s} {g} q r = by (eqb-reflects (misplacedCount t g) 0)
   where
@@ -78,18 +78,18 @@ built-told {s} {g} q r = by (eqb-reflects (misplacedCount t g) 0)
     p = run-end r .0
 
     by : {c : Bool} → Reflects (misplacedCount t g ≡ 0) c
-        → Tests s g (cond c [] (onward t (loop t g))) (blockedPairs t g (cond c [] (onward t (loop t g))))
+        → ByTest s g (cond c [] (onward t (loop t g))) (blockedPairs t g (cond c [] (onward t (loop t g))))
     by (holds e) = none q (run-told r) (λ b m. m (none-misplaced p e b)) refl refl
     by (fails n) =
         let m = some-misplaced p n in
         let h : Stalled t g = record { block = m .0; misplaced = m .1; none-ready = run-end r .1 } in
         found q (run-told r) h (onward-told p h) (pairs-told p h)
 
-deadlock-is : {s g : State} → Problem s g → Tests s g (deadlockLoop s g) (deadlockPairs s g)
+deadlock-is : {s g : State} → Problem s g → ByTest s g (deadlockLoop s g) (deadlockPairs s g)
 unfolding deadlockLoop deadlockPairs
 deadlock-is {s} {g} p =
     let r = built-run p in
-    subst (λ t. Tests s g (loopAt t g) (blockedPairs t g (loopAt t g))) (sym (r .1)) (built-told (r .0) (r .2))
+    subst (λ t. ByTest s g (loopAt t g) (blockedPairs t g (loopAt t g))) (sym (r .1)) (built-told (r .0) (r .2))
 
 -- ---- the words give one answer
 
@@ -148,7 +148,7 @@ pairs-only {t} {g} {l} {k} {m} a b = ext-getD 0 k m (a .size ∙ sym (b .size)) 
     half i h (inl e) = at i (i / 2) h (inl e)
     half i h (inr n) = at i (i / 2) h (inr (omega (arith, n)))
 
-tests-only : {s g : State} → Problem s g → {l k l′ k′ : List ℕ} → Tests s g l k → Tests s g l′ k′ → (l ≡ l′) × (k ≡ k′)
+tests-only : {s g : State} → Problem s g → {l k l′ k′ : List ℕ} → ByTest s g l k → ByTest s g l′ k′ → (l ≡ l′) × (k ≡ k′)
 tests-only i (none p v h e f) (none p′ v′ h′ e′ f′) = (e ∙ sym e′, f ∙ sym f′)
 tests-only {s} {g} i (none p v h e f) (found p′ v′ h′ o′ c′) =
     absurd (subst (λ q. NoneMisplaced g (after s q)) (building-only i v v′) h (h′ .block) (h′ .misplaced))
@@ -160,8 +160,8 @@ tests-only {s} {g} i {l} {k} {l′} {k′} (found p v h o c) (found p′ v′ h�
     (same, pairs-only c (subst (λ m. Pairs (after s p) g m k′) (sym same) (subst (λ q. Pairs (after s q) g l′ k′) there c′)))
 
 -- the test gives an answer exactly where the words give it
-pub deadlock-told : (s g : State) → Problem s g → (l pairs : List ℕ) → ((deadlockLoop s g ≡ l) × (deadlockPairs s g ≡ pairs)) ↔ Tests s g l pairs
+pub deadlock-told : (s g : State) → Problem s g → (l pairs : List ℕ) → ((deadlockLoop s g ≡ l) × (deadlockPairs s g ≡ pairs)) ↔ ByTest s g l pairs
 deadlock-told s g p l pairs = (
-  λ e. subst (Tests s g l) (e .1) (subst (λ k. Tests s g k (deadlockPairs s g)) (e .0) (deadlock-is p)),
+  λ e. subst (ByTest s g l) (e .1) (subst (λ k. ByTest s g k (deadlockPairs s g)) (e .0) (deadlock-is p)),
   λ w. tests-only p (deadlock-is p) w,
 )

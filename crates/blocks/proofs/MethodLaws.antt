@@ -11,7 +11,7 @@ use Rattle.blocks.specs.Position.{Problem, Misplaced}
 use Rattle.blocks.specs.Move.{Plan, Constructive, CarefulPlan, Solves, after}
 use Rattle.blocks.specs.Deadlock.{Deadlocked}
 use Rattle.lists.specs.Search.{Lowest}
-use Rattle.blocks.specs.Tests.{misplacedᵇ, misplacedCount, measure}
+use Rattle.blocks.specs.Tests.{misplacedCount, measure}
 use Rattle.blocks.specs.Loop.{loop, top, successor}
 use Rattle.blocks.specs.Method.{plan, precede, andThen, iterate, fuel, lowestPerched, lowestOnLoop, clearing, building, solving, Method, Us, Gn1, Gn2, outcome}
 use Rattle.blocks.specs.Stall.{IsLoop, NoneReady, Perched, Waiting, Moves}
@@ -21,7 +21,7 @@ use Rattle.lists.proofs.SearchLaws.{lowest-only}
 use Rattle.blocks.proofs.StateLaws.{support-put-other, down-table}
 use Rattle.blocks.proofs.FrameLaws.{problem-moved, position-frame, clear-frame}
 use Rattle.blocks.proofs.TowerLaws.{Reaches}
-use Rattle.blocks.proofs.PositionLaws.{position-moved, position-table, misplaced-block, misplaced-test}
+use Rattle.blocks.proofs.PositionLaws.{position-moved, position-table, misplaced-block}
 use Rattle.blocks.proofs.DeadlockLaws.{deadlock-old}
 use Rattle.blocks.proofs.MisplacedLaws.{some-misplaced, misplaced-none, none-misplaced-is-goal}
 use Rattle.blocks.proofs.StallLaws.{top-clear, waiting-above, successor-waits, above-off-table}

@@ -1,5 +1,5 @@
 -- What the steps of the methods are: constructive moves, and moves of perched blocks to the table. Assumes nothing.
-use mathlib.Core.Path.{_≡_, refl, sym, ap, _∙_, subst}
+use mathlib.Core.Path.{_≡_, refl, sym, subst}
 use mathlib.Core.Logic.{inl, inr, _≢_}
 use mathlib.Core.Bool.{Bool, cond}
 use Prim.Native.Nat.{ℕ, zero, suc, _≤_}
@@ -13,7 +13,7 @@ use Rattle.blocks.specs.Tests.{readyᵇ, perchedᵇ, misplacedCount, mea
 use Rattle.blocks.specs.Method.{stop, noBlock, toTable, toGoal, lowestPerched, lowestReady, clearing, building, solving}
 use Rattle.blocks.specs.Stall.{Ready, NoneReady, Perched, Moves}
 use Rattle.blocks.specs.Steps.{Builds, Clears, Stalled, NoneMisplaced, Solving, builds, clears}
-use Rattle.lists.proofs.ReflectLaws.{Reflects, holds, fails, from-true, from-false, eqb-reflects}
+use Rattle.lists.proofs.ReflectLaws.{Reflects, holds, fails, from-false, eqb-reflects}
 use Rattle.lists.proofs.SearchLaws.{lowest-none, lowest-found}
 use Rattle.blocks.proofs.ClearLaws.{clear-table}
 use Rattle.blocks.proofs.PositionLaws.{perched-test, ready-test, position-table, misplaced-block}

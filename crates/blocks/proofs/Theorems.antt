@@ -129,6 +129,7 @@ theorems =
       deadlock-none = λ s g p. deadlocks.deadlock-none p;
       deadlock-shown = λ s g p. deadlocks.deadlock-shown p;
       deadlock-told = words.deadlock-told;
+      deadlock-written = answers.deadlock-written;
       deadlock-fits = deadlocks.deadlock-fits;
       demand = demand;
       written-solves = answers.written-solves;

@@ -15,7 +15,7 @@ use Rattle.blocks.specs.Tests.{clearᵇ, groundedᵇ, inPositionᵇ, wai
 use Rattle.blocks.specs.Deadlock.{next, Deadlock, Deadlocked}
 use Rattle.blocks.specs.Loop.{lastMisplaced, blocker, successor, loop}
 use Rattle.blocks.specs.Stall.{Waiting, Perched, Ready, NoneReady, IsLoop}
-use Rattle.blocks.specs.Steps.{Stalled, LoopOf, By, Tests}
+use Rattle.blocks.specs.Steps.{Stalled, LoopOf, By, ByTest}
 use Rattle.blocks.specs.Method.{Method, Us, plan, outcome, numberOf, deadlockLoop, deadlockPairs}
 use Rattle.blocks.specs.Question.{allYes, no′, firstNo, numbers, IsMethod, problemQuestions, planQuestions, deadlockQuestions, replayQuestions}
 use Rattle.blocks.specs.Question.{Refused, PlanRefused, DeadlockRefused, ReplayRefused}
@@ -140,7 +140,10 @@ pub record Theorems : Type 0 where
   pub deadlock-none : (s g : State) → Problem s g → (length (deadlockLoop s g) ≡ 0) ↔ NoDeadlock s g
   pub deadlock-shown : (s g : State) → Problem s g → length (deadlockLoop s g) ≢ 0 → Shown s g (deadlockLoop s g) (deadlockPairs s g)
   -- what it writes is what its words give, and they give no other answer
-  pub deadlock-told : (s g : State) → Problem s g → (l pairs : List ℕ) → ((deadlockLoop s g ≡ l) × (deadlockPairs s g ≡ pairs)) ↔ Tests s g l pairs
+  pub deadlock-told : (s g : State) → Problem s g → (l pairs : List ℕ) → ((deadlockLoop s g ≡ l) × (deadlockPairs s g ≡ pairs)) ↔ ByTest s g l pairs
+  -- and so is what stands in the lent space
+  pub deadlock-written : (s g : State) (space : List ℕ) → Accepted s g → 2 * length s ≤ length space
+      → (l : List ℕ) × (length l ≡ (deadlockAnswer s g space) .count) × ByTest s g l (take (2 * (deadlockAnswer s g space) .count) (deadlockSpace s g space))
   pub deadlock-fits : (s g : State) → Problem s g → length (deadlockPairs s g) ≤ 2 * length s
   -- ---- demand 3: every method gives a plan, and keeps the promise
   pub demand : (m : Method) (s g : State) → Problem s g → (p : Plan) × (outcome m s g ≡ plan p) × Promise m s g p × Economy m s g p

@@ -170,9 +170,6 @@ replayQuestions s g lifts = problemQuestions s g ++ (asksEven lifts ∷ [])
 
 -- ---- the refusals: the first "no" has number k and place p
 
-abbrev pub BadState : ℕ → ℕ → ℕ → State → ℕ → ℕ → Type 0
-BadState k₁ k₂ k₃ s k p = FirstNo (stateQuestions k₁ k₂ k₃ s) k p
-
 abbrev pub Refused : State → State → ℕ → ℕ → Type 0
 Refused s g k p = FirstNo (problemQuestions s g) k p
 

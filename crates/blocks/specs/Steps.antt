@@ -128,6 +128,6 @@ pub record Pairs (s g : State) (l pairs : List ℕ) : Type 0 where
 
 -- It "makes constructive lifts, as in method 2, on a copy of the yard until none is left. No misplaced slab left: the answer is none, count 0. Otherwise
 -- the count is the length of the loop, and the loop is written".
-pub data Tests (s g : State) (l pairs : List ℕ) : Type 0 where
-  none : (p : Plan) → Steps (Builds g) (λ t. NoneReady t g) s p → NoneMisplaced g (after s p) → l ≡ [] → pairs ≡ [] → Tests s g l pairs
-  found : (p : Plan) → Steps (Builds g) (λ t. NoneReady t g) s p → Stalled (after s p) g → Onward (after s p) g l → Pairs (after s p) g l pairs → Tests s g l pairs
+pub data ByTest (s g : State) (l pairs : List ℕ) : Type 0 where
+  none : (p : Plan) → Steps (Builds g) (λ t. NoneReady t g) s p → NoneMisplaced g (after s p) → l ≡ [] → pairs ≡ [] → ByTest s g l pairs
+  found : (p : Plan) → Steps (Builds g) (λ t. NoneReady t g) s p → Stalled (after s p) g → Onward (after s p) g l → Pairs (after s p) g l pairs → ByTest s g l pairs

@@ -6,6 +6,7 @@ use mathlib.Core.Logic.{_⊎_, inl, inr}
 use mathlib.Core.Bool.{Bool, true, false, _&&_, cond, false≢true}
 use mathlib.Core.List.{List, [], _++_}
 use native.Mathlib.Omega.{arith}
+use lib.Dec.{ltb}
 use lib.ListN.{length, take, drop, length-take, length-append, take-append-drop}
 use lib.Seq.{take-all}
 use Rattle.blocks.specs.State.{most}
@@ -28,7 +29,7 @@ use Rattle.sheets.proofs.HeadLaws.{long-sheet}
 use Rattle.sheets.proofs.SheetLaws.{sheet-says}
 use Rattle.responder.specs.Responses.{responseTo}
 use Rattle.responder.specs.Wanted.{decidedBy, wantedBy, wanted}
-use Rattle.responder.specs.Bounds.{Decides, enough, WantedBounded, Enough}
+use Rattle.responder.specs.Bounds.{Decides, WantedWithin, enough, WantedBounded, Enough}
 use Rattle.responder.proofs.PrefixLaws.{same-record, same-entries}
 use Rattle.responder.proofs.DecidedLaws.{method-reflects}
 use Rattle.responder.proofs.AnsweredLaws.{Answered, headless-way, unnamed-way, long-way, broken-way, tail-way}
@@ -155,6 +156,21 @@ wanted-bounded bytes l = by (recordAt Hd bytes 0) refl
         behind true (fails h) = omega arith
         behind false (holds h) = omega arith
         behind false (fails h) = omega arith
+
+-- and behind a head never more than fill its sheet and a byte
+pub wanted-within : WantedWithin
+unfolding wanted
+wanted-within bytes =
+    record {
+      head = λ e. let same = ap (λ f. wantedBy f bytes) e in omega (arith, same);
+      sheet = λ n m e.
+          let same = ap (λ f. wantedBy f bytes) e in
+          omega (arith, same, some-or-none n (isMethod (methodOf m) && ltb (length bytes) (decidedBy (sheetAt bytes 0))));
+    }
+  where
+    some-or-none : (n : ℕ) (t : Bool) → cond t (endAt 0 n + 1 - length bytes) 0 ≤ endAt 0 n + 1 - length bytes
+    some-or-none n true = omega arith
+    some-or-none n false = omega arith
 
 -- so 32,007 bytes decide
 pub input-bound : Enough

@@ -1,12 +1,12 @@
 -- Where a record ends and more bytes are wanted, some that follow change the answer: the head behind nothing, the record that is missing behind a
 -- sheet that is not whole, and a tail behind one that is. Assumes nothing.
-use Prim.Native.Nat.{ℕ, _+_, _-_, _*_, _≤_, _<_}
+use Prim.Native.Nat.{ℕ, zero, suc, _+_, _-_, _*_, _≤_, _<_}
 use mathlib.Core.Path.{_≡_, refl, sym, _∙_, ap, ap₂}
 use mathlib.Core.Logic.{_⊎_, inl, inr, _≢_}
 use mathlib.Core.Bool.{Bool, _&&_, cond}
 use mathlib.Core.List.{List, [], _∷_, _++_}
 use native.Mathlib.Omega.{arith}
-use lib.ListN.{length, length-append}
+use lib.ListN.{length, getD, length-append}
 use Rattle.blocks.specs.Method.{planOf, planOutcome}
 use Rattle.blocks.specs.Answer.{planAnswer}
 use Rattle.blocks.specs.Question.{Asked, allYes, no′, firstNo, FirstNo, IsMethod, stateQuestions, problemQuestions, planQuestions}
@@ -20,6 +20,7 @@ use Rattle.records.specs.declared.Kind.{Kind}
 use Rattle.records.specs.declared.Kind.the-variants.{Hd, Nw, Gl}
 use Rattle.records.specs.declared.Found.the-variants.{Record, Missing}
 use Rattle.records.proofs.ReadLaws.{found-room}
+use Rattle.records.proofs.RoundTrip.{round-trip}
 use Rattle.records.proofs.ThereLaws.{missing-unique}
 use Rattle.sheets.specs.declared.Sheet.{Sheet}
 use Rattle.sheets.specs.declared.Sheet.the-variants.{Headless, Long, Broken, Whole}
@@ -32,7 +33,7 @@ use Rattle.responder.specs.Wanted.{decidedBy, wantedBy, wanted}
 use Rattle.responder.specs.Answers.{refusedAs}
 use Rattle.responder.specs.Bounds.{RecordEnds, Undecided, Needed}
 use Rattle.responder.proofs.ToldLaws.{refusal-same, plan-not-refusal}
-use Rattle.responder.proofs.PrefixLaws.{entries-room, entries-grow, one, one-there}
+use Rattle.responder.proofs.PrefixLaws.{entries-room, entries-grow, one, one-there, one-bytes}
 use Rattle.responder.proofs.DecidedLaws.{method-reflects, sheet-refuses}
 use Rattle.responder.proofs.AnsweredLaws.{responds, headless-way, unnamed-way, broken-way, tail-way}
 use Rattle.responder.proofs.InputBound.{head-stays, whole-stays, nows-stay}
@@ -123,7 +124,7 @@ unfolding recordBytes markOf marks recordAt hasRecord fieldOf
 head-alone = refl
 
 headless : (bytes : List ℕ) → recordAt Hd bytes 0 ≡ Missing → length bytes ≡ 0 → Undecided bytes
-headless [] e z = record { more = empty; other = λ x. clash (refusal-same (alone ∙ x ∙ sym nothing) .0) }
+headless [] e z = record { more = empty; small = round-trip Hd 0 0 0 [] .bytes (omega arith) (omega arith); other = λ x. clash (refusal-same (alone ∙ x ∙ sym nothing) .0) }
   where
     empty : List ℕ
     empty = recordBytes Hd (0 ∷ 0 ∷ [])
@@ -156,7 +157,7 @@ module _ (bytes : List ℕ) (ends : RecordEnds (length bytes)) where
       with-one k other =
           let all = bytes ++ one k in
           let same = responds all (head-stays bytes (one k) (w .head)) [] in
-          record { more = one k; other = λ x. not-first n m all other (first-of n m all p (same ∙ x ∙ sym (broken-way [] w (asked-as i 12 p) .same))) }
+          record { more = one k; small = one-bytes k; other = λ x. not-first n m all other (first-of n m all p (same ∙ x ∙ sym (broken-way [] w (asked-as i 12 p) .same))) }
 
       by : NowMissing bytes 0 n p ⊎ GoalMissing bytes 0 n p → Undecided bytes
       by (inl f) =
@@ -184,9 +185,14 @@ module _ (bytes : List ℕ) (ends : RecordEnds (length bytes)) where
 whole : (bytes : List ℕ) {n m e : ℕ} → IsWhole bytes 0 n m e → IsMethod m → length bytes < e + 1 → Undecided bytes
 whole bytes {n} {m} {e} w i l = record {
   more = 0 ∷ [];
+  small = record { small = zeros };
   other = λ x. not-first n m bytes rows (first-of n m bytes (2 * n + 1) (responds bytes (w .head) [] ∙ sym x ∙ sym tailed));
 }
   where
+    zeros : (i : ℕ) → getD (0 ∷ []) i 0 < 256
+    zeros zero = omega arith
+    zeros (suc i) = omega arith
+
     before : goalsAt 0 n ≤ length bytes
     before = rw (w .nows-there) at (entries-room Nw bytes n (nowsAt 0) (found-room Hd bytes 0 (w .head)))
 

@@ -10,14 +10,14 @@ use lib.Dec.{ltb, eqb}
 use lib.ListN.{length, length-append, List·getD-append}
 use Rattle.lists.specs.Search.{pick}
 use Rattle.records.specs.Marks.{markOf, size}
-use Rattle.records.specs.Records.{fieldAt, hasRecord, fieldOf, recordAt, foundIf, andThen, entriesAt}
+use Rattle.records.specs.Records.{fieldAt, hasRecord, fieldOf, recordAt, foundIf, andThen, entriesAt, recordBytes}
 use Rattle.records.specs.declared.Kind.{Kind}
 use Rattle.records.specs.declared.Found.{Found}
-use Rattle.records.specs.RoundTrip.{entryBytes}
+use Rattle.records.specs.RoundTrip.{Bytes, entryBytes}
 use Rattle.records.specs.declared.Found.the-variants.{Record, Missing}
 use Rattle.records.proofs.ReadLaws.{found-room}
 use Rattle.records.proofs.EntryLaws.{entries-none}
-use Rattle.records.proofs.RoundTrip.{entries-trip}
+use Rattle.records.proofs.RoundTrip.{small-nil, small-append, round-trip, entries-trip}
 
 module _ (bytes more : List ℕ) where
   abbrev all : List ℕ
@@ -117,6 +117,10 @@ module _ (k : Kind) (bytes : List ℕ) where
 -- The bytes of a record of a kind, and behind others it is there.
 abbrev pub one : Kind → List ℕ
 one k = entryBytes k (0 ∷ []) ++ []
+
+pub one-bytes : (k : Kind) → Bytes (one k)
+unfolding entryBytes
+one-bytes k = small-append (entryBytes k (0 ∷ [])) (small-append (recordBytes k (0 ∷ 0 ∷ [])) (round-trip k 0 0 0 [] .bytes (omega arith) (omega arith)) small-nil) small-nil
 
 pub one-there : (k : Kind) (bytes : List ℕ) {at : ℕ} → length bytes ≡ at → recordAt k (bytes ++ one k) at ≢ Missing
 one-there k bytes e z =

@@ -148,6 +148,7 @@ module _ (bytes : List ℕ) (n : ℕ) (by : Method) (same : methodOf (numberOf b
         end = long;
         changes = refl;
         given = demand .1 ∙ ap plan (sym lifts-read);
+        told = theorems .methods by s g (w .accepted .problem) (liftsAt answer (size Pl) (length p)) .0 (demand .1 ∙ ap plan (sym lifts-read));
         promise = subst (Promise by s g) (sym lifts-read) (demand .2);
       }
 

@@ -1,13 +1,16 @@
 -- How much of the input decides the answer, and how long an answer can be. Statements alone; `proofs/InputBound.antt`,
 -- `proofs/Needed.antt` and `proofs/AnswerBound.antt` prove them. Assumes nothing.
-use Prim.Native.Nat.{ℕ, _+_, _*_, _≤_}
+use Prim.Native.Nat.{ℕ, _+_, _-_, _*_, _≤_}
 use mathlib.Core.Path.{_≡_}
 use mathlib.Core.Logic.{_⊎_, _≢_}
 use mathlib.Core.List.{List, _++_}
 use lib.ListN.{length, take}
 use Rattle.blocks.specs.State.{most}
 use Rattle.records.specs.Marks.{size}
-use Rattle.records.specs.declared.Kind.the-variants.{Nw}
+use Rattle.records.specs.Records.{recordAt}
+use Rattle.records.specs.RoundTrip.{Bytes}
+use Rattle.records.specs.declared.Kind.the-variants.{Hd, Nw}
+use Rattle.records.specs.declared.Found.the-variants.{Record, Missing}
 use Rattle.sheets.specs.Sheets.{nowsAt, endAt}
 use Rattle.responder.specs.Responses.{responseTo}
 use Rattle.responder.specs.Wanted.{wanted}
@@ -24,11 +27,20 @@ RecordEnds at = (at ≡ 0) ⊎ ((i : ℕ) × (at ≡ nowsAt 0 + i * size Nw))
 -- Some bytes that follow change the answer.
 pub record Undecided (bytes : List ℕ) : Type 0 where
   pub more : List ℕ
+  pub small : Bytes more
   pub other : responseTo (bytes ++ more) ≢ responseTo bytes
 
 -- Where a record ends, more bytes are wanted only while the answer is not decided.
 abbrev pub Needed : Type 0
 Needed = (bytes : List ℕ) → RecordEnds (length bytes) → wanted bytes ≢ 0 → Undecided bytes
+
+-- No more are wanted than the rest of the head, and behind a head than the rest of its sheet and a byte.
+pub record WantsWithin (bytes : List ℕ) : Type 0 where
+  pub head : recordAt Hd bytes 0 ≡ Missing → wanted bytes ≤ size Hd - length bytes
+  pub sheet : (n m : ℕ) → recordAt Hd bytes 0 ≡ Record n m → wanted bytes ≤ endAt 0 n + 1 - length bytes
+
+abbrev pub WantedWithin : Type 0
+WantedWithin = (bytes : List ℕ) → WantsWithin bytes
 
 -- A byte more than the longest input without a tail.
 abbrev pub enough : ℕ

@@ -8,6 +8,7 @@ use lib.ListN.{length}
 use Rattle.blocks.specs.Move.{_⟶_, Plan}
 use Rattle.blocks.specs.Tests.{changed}
 use Rattle.blocks.specs.Method.{Method, plan, outcome, numberOf}
+use Rattle.blocks.specs.Steps.{By}
 use Rattle.blocks.specs.Demands.{Promise}
 use Rattle.records.specs.Marks.{size}
 use Rattle.records.specs.Records.{recordAt}
@@ -33,8 +34,8 @@ liftsAt bytes at (suc c) = andLift (recordAt Lf bytes at) (liftsAt bytes (at + s
 
 -- ---- what an answer tells of an input
 
--- Of PL with c lifts and d changed: behind it stand c LF records and nothing more. They are the list that the method of the head gives for the sheet of the
--- NW and GL records, and it keeps demand 3.
+-- Of PL with c lifts and d changed: behind it stand c LF records and nothing more. They are the list that the method of the head, by its words too, gives
+-- for the sheet of the NW and GL records, and it keeps demand 3.
 pub record TellsPlan (bytes answer : List ℕ) (c d : ℕ) : Type 0 where
   pub n : ℕ
   pub method : Method
@@ -43,6 +44,7 @@ pub record TellsPlan (bytes answer : List ℕ) (c d : ℕ) : Type 0 where
   pub end : length answer ≡ size Pl + c * size Lf
   pub changes : d ≡ changed (nows bytes 0 n) (goals bytes 0 n)
   pub given : outcome method (nows bytes 0 n) (goals bytes 0 n) ≡ plan (liftsAt answer (size Pl) c)
+  pub told : By method (nows bytes 0 n) (goals bytes 0 n) (liftsAt answer (size Pl) c)
   pub promise : Promise method (nows bytes 0 n) (goals bytes 0 n) (liftsAt answer (size Pl) c)
 
 -- Of an answer of any kind.
