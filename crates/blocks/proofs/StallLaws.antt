@@ -77,14 +77,14 @@ module _ {s g : State} (p : Problem s g) where
       go (fails n) rest =
           let f = rest n in
           let foot = f .1 in
-          let between : (j : ℕ) → 1 ≤ j → j ≤ suc (foot .steps) → Misplaced s g (down g j b) = under (foot .steps) n (foot .first) in
+          let between : (j : ℕ) → 1 ≤ j → j ≤ suc (foot .steps) → Misplaced s g (down g j b) = beneath (foot .steps) n (foot .first) in
           (f .0, record { steps = suc (foot .steps); last = foot .last; rests = refl; position = foot .position; first = between })
         where
-          under : (k : ℕ) → Misplaced s g (support g b) → ((j : ℕ) → 1 ≤ j → j ≤ k → Misplaced s g (down g j (support g b)))
+          beneath : (k : ℕ) → Misplaced s g (support g b) → ((j : ℕ) → 1 ≤ j → j ≤ k → Misplaced s g (down g j (support g b)))
               → (j : ℕ) → 1 ≤ j → j ≤ suc k → Misplaced s g (down g j b)
-          under k n below zero l h = absurd (omega arith)
-          under k n below (suc zero) l h = n
-          under k n below (suc (suc j)) l h = below (suc j) (omega arith) (omega arith)
+          beneath k n below zero l h = absurd (omega arith)
+          beneath k n below (suc zero) l h = n
+          beneath k n below (suc (suc j)) l h = below (suc j) (omega arith) (omega arith)
 
   -- d of document 01
   pub last-foot : (b : ℕ) → Misplaced s g b → LastOf b (lastMisplaced s g (length s) b)
