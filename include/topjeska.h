@@ -4,10 +4,9 @@
  * ground. A list is lent as a pointer and a length. The pointer is to as many numbers as the length
  * says, and may be NULL where the length is 0; the space overlaps no other list.
  *
- * In every answer `refusal` is 0 where the call was answered, else the number of the question that
- * got a "no"; `place` is then its place, the counts are 0, and the space holds what it held. A
- * refused replay gives no verdict: TOPJESKA_NO_VERDICT stands in its place.
- * No call allocates memory or keeps a pointer. A call uses less than 160 KiB of stack. */
+ * In every answer `refusal` is 0 where the call was answered, else one of TOPJESKA_REFUSAL_...;
+ * `place` is then its place, the counts are 0, and the space holds what it held. A refused replay
+ * gives no verdict: TOPJESKA_NO_VERDICT stands in its place. */
 #ifndef TOPJESKA_H
 #define TOPJESKA_H
 
@@ -17,6 +16,118 @@
 #ifdef __cplusplus
 extern "C" {
 #endif
+
+/* ---- version, of this header and of the library beside it */
+
+#define TOPJESKA_VERSION "0.1.0"
+#define TOPJESKA_VERSION_MAJOR 0
+#define TOPJESKA_VERSION_MINOR 1
+#define TOPJESKA_VERSION_PATCH 0
+
+/* ---- limits and memory */
+
+/* The most slabs of a sheet. */
+#define TOPJESKA_MOST_SLABS 4000u
+
+/* The numbers of lent space that planning needs for n slabs. */
+#define TOPJESKA_PLAN_SPACE(n) (4u * (n))
+
+/* The numbers of lent space that the deadlock test needs for n slabs. */
+#define TOPJESKA_DEADLOCK_SPACE(n) (2u * (n))
+
+/* The bytes of stack that every call stays below. No call allocates memory or keeps a pointer: the
+ * working lists lie on the stack, and are as long for a few slabs as for 4,000. Measured with a
+ * thread for each call, its own needs included:
+ *
+ *     check           36 KiB
+ *     replay          44 KiB
+ *     planning        84 KiB
+ *     deadlock test  115 KiB */
+#define TOPJESKA_STACK_BYTES 163840u
+
+/* ---- methods of planning */
+
+/* US: puts down all that is misplaced, then makes constructive lifts. */
+#define TOPJESKA_METHOD_US 1u
+
+/* GN1: makes constructive lifts, and at a stall puts down the lowest misplaced clear slab. */
+#define TOPJESKA_METHOD_GN1 2u
+
+/* GN2: as GN1, but at a stall puts down the lowest slab on the loop. */
+#define TOPJESKA_METHOD_GN2 3u
+
+/* ---- refusals: the number of the first question that got a "no"
+ *
+ * In brackets who asks it, where not all do; the place is 0 where none is named. 12 is the planning
+ * program's alone, and 13 is never answered (theorem `never-13`): no function here gives them. */
+
+/* Is the method 1, 2 or 3? (planning) */
+#define TOPJESKA_REFUSAL_METHOD 1u
+
+/* Has the now list at most 4,000 entries? */
+#define TOPJESKA_REFUSAL_TOO_MANY 2u
+
+/* Has the goal list as many? */
+#define TOPJESKA_REFUSAL_UNEQUAL 3u
+
+/* Is every now entry at most n? Place: the lowest slab with a bad entry. */
+#define TOPJESKA_REFUSAL_NOW_ENTRY 4u
+
+/* Does each slab carry at most one slab now? Place: the lowest slab that rests where a
+ * lower-numbered slab rests, the ground excepted. */
+#define TOPJESKA_REFUSAL_NOW_SHARED 5u
+
+/* Does every slab come down to the ground now? Place: the lowest slab that does not. */
+#define TOPJESKA_REFUSAL_NOW_FLOATING 6u
+
+/* Is every goal entry at most n? Place: the lowest slab with a bad entry. */
+#define TOPJESKA_REFUSAL_GOAL_ENTRY 7u
+
+/* Does each slab carry at most one slab in the goal? Place: the lowest slab that rests where a
+ * lower-numbered slab rests, the ground excepted. */
+#define TOPJESKA_REFUSAL_GOAL_SHARED 8u
+
+/* Does every slab come down to the ground in the goal? Place: the lowest slab that does not. */
+#define TOPJESKA_REFUSAL_GOAL_FLOATING 9u
+
+/* Is the lent space large enough? (planning, deadlock test) */
+#define TOPJESKA_REFUSAL_SPACE 10u
+
+/* Has the lift list an even number of entries? (replay) */
+#define TOPJESKA_REFUSAL_ODD 11u
+
+/* Are all bytes of the record there, with its own mark, and nothing after the last record? (program)
+ * Place: the records before it, or 2 * n + 1 for a tail. */
+#define TOPJESKA_REFUSAL_RECORD 12u
+
+/* Was there a slab to put down when no constructive lift existed? (planning) */
+#define TOPJESKA_REFUSAL_STALL 13u
+
+/* ---- verdicts of replay */
+
+/* Arrives. */
+#define TOPJESKA_VERDICT_ARRIVES 0u
+
+/* The slab is not in 1 to n or the destination is above n. Place: the lift, counted from 1. */
+#define TOPJESKA_VERDICT_UNKNOWN 1u
+
+/* The slab is not clear. Place: the lift, counted from 1. */
+#define TOPJESKA_VERDICT_COVERED 2u
+
+/* It already rests there. Place: the lift, counted from 1. */
+#define TOPJESKA_VERDICT_IDLE 3u
+
+/* The destination is the slab itself or a slab that is not clear. Place: the lift, counted from 1. */
+#define TOPJESKA_VERDICT_TAKEN 4u
+
+/* All lifts are legal and the end differs from the goal. Place: the lowest slab whose support
+ * differs. */
+#define TOPJESKA_VERDICT_ELSEWHERE 5u
+
+/* The verdict of a refused replay: a number that is none. */
+#define TOPJESKA_NO_VERDICT 65535u
+
+/* ---- answers */
 
 /* Whether two lists are a sheet. */
 typedef struct {
@@ -33,31 +144,27 @@ typedef struct {
     uint64_t refusal, place, count;
 } topjeska_deadlock_answer;
 
-/* The verdict of a refused replay: a number that is none. */
-#define TOPJESKA_NO_VERDICT 65535u
-
-/* The verdict, and the place of the refusal or of the verdict. Verdicts 1 to 4 are of a bad lift, and
- * the place counts the lifts from 1: 1 the slab is not 1 to n or the destination is above n, 2 the
- * slab is not clear, 3 it already rests there, 4 the destination is the slab itself or not clear.
- * 5: every lift is legal and the end is not the goal; the place is the lowest slab that differs.
- * 0: the list arrives, and the place is 0. */
+/* The verdict, one of TOPJESKA_VERDICT_..., and the place of the refusal or of the verdict. */
 typedef struct {
     uint64_t refusal, verdict, place;
 } topjeska_replay_answer;
+
+/* ---- functions */
 
 /* Puts questions 2 to 9 to two lists. */
 topjeska_check_answer topjeska_check(const uint16_t *now, size_t now_len,
                                      const uint16_t *goal, size_t goal_len);
 
-/* Writes the lifts of method 1, 2 or 3 to the front of the space, as pairs: slab, destination. The
- * space needs 4 numbers for each slab; what lies behind the pairs keeps what it held. */
+/* Writes the lifts of a method, one of TOPJESKA_METHOD_..., to the front of the space, as pairs:
+ * slab, destination. The space needs TOPJESKA_PLAN_SPACE numbers; what lies behind the pairs keeps
+ * what it held. */
 topjeska_plan_answer topjeska_plan(uint16_t method, const uint16_t *now, size_t now_len,
                                    const uint16_t *goal, size_t goal_len,
                                    uint16_t *space, size_t space_len);
 
 /* Writes the deadlock that the constructive lifts come to, if any, to the front of the space, as
- * pairs: the slab, and the slab through which the next one is in its way. The space needs 2 numbers
- * for each slab; what lies behind the pairs keeps what it held. */
+ * pairs: the slab, and the slab through which the next one is in its way. The space needs
+ * TOPJESKA_DEADLOCK_SPACE numbers; what lies behind the pairs keeps what it held. */
 topjeska_deadlock_answer topjeska_deadlock(const uint16_t *now, size_t now_len,
                                            const uint16_t *goal, size_t goal_len,
                                            uint16_t *space, size_t space_len);

@@ -2,13 +2,18 @@
 
 The structs with their fields in order, the functions with their parameters in order, the widths of
 both, and the filler of a refused replay are read from include/topjeska.h, crates/topjeska/src/lib.rt
-and examples/rust/src/ffi.rs, and held to each other; so is what library.py and reading.py take for
-granted. Then tests/c/fields.c names every field on sheets where an exchange shows. Last the test is
-tried itself: each exchange of two fields or two parameters in one of the files, and each of two fields
-or two lists between fields.c and the library, must be noticed. The last line is 'N passed, M failed'.
+and rust/src/ffi.rs, and held to each other; so is what library.py and reading.py take for granted. The
+constants of header and wrapper are held to each other, their numbers and words to tools/rules.py, and
+the version to rust/Cargo.toml. Then tests/c/fields.c names every field, and every constant that a call
+takes or answers, on sheets where an exchange shows, and tests/c/stack.c holds the stack of each call to
+the header's bound and table. Last the test is tried itself: each exchange of two fields, two parameters
+or two constants in one of the files, each of two fields or two lists between fields.c and the library,
+each constant of fields.c with another value, and smaller bounds for stack.c must be noticed. The last
+line is 'N passed, M failed'.
 """
 
 import argparse
+import functools
 import itertools
 import re
 import sys
@@ -17,12 +22,16 @@ from pathlib import Path
 from typing import NamedTuple
 
 import reading
-from compiled import INCLUDE, LIBRARY, ROOT, TARGET, tried
+from compiled import INCLUDE, LIBRARY, ROOT, TARGET, Count, tried
 from library import FIELDS
+
+sys.path.append(str(ROOT / "tools"))
+import rules  # noqa: E402
 
 HEADER = INCLUDE / "topjeska.h"
 EXPORTS = ROOT / "crates" / "topjeska" / "src" / "lib.rt"
-WRAPPER = ROOT / "examples" / "rust" / "src" / "ffi.rs"
+WRAPPER = ROOT / "rust" / "src" / "ffi.rs"
+MANIFEST = ROOT / "rust" / "Cargo.toml"
 
 # A field or a parameter: its name and its type, as Rust writes the type.
 Named = tuple[str, str]
@@ -40,12 +49,19 @@ SLICES = {"&[u16]": "*const u16", "&mut [u16]": "*mut u16"}
 WORDS = {"initial": "now", "out": "space"}
 
 
+class Constant(NamedTuple):
+    """A constant: its number, that of one slab where n is asked for, and the comment above it in one line."""
+
+    number: int
+    words: str
+
+
 class Interface(NamedTuple):
-    """What a file declares, by operation: fields in order; the answer and the parameters in order; the filler."""
+    """What a file declares: by operation fields in order, and the answer and the parameters in order; constants."""
 
     fields: dict[str, list[Named]]
     functions: dict[str, tuple[str, list[Named]]]
-    fillers: list[str]
+    constants: dict[str, Constant]
 
 
 class Language(NamedTuple):
@@ -53,7 +69,7 @@ class Language(NamedTuple):
 
     struct: re.Pattern[str]
     function: re.Pattern[str]
-    filler: re.Pattern[str]
+    constant: re.Pattern[str]
     field_end: str
     names: re.Pattern[str]
     named: Callable[[str], Iterator[Named]]
@@ -81,7 +97,11 @@ def in_rust(part: str) -> Iterator[Named]:
 C = Language(
     re.compile(r"^typedef struct \{(?P<body>[^}]*)\} topjeska_(?P<name>\w+)_answer;", re.MULTILINE),
     re.compile(r"^topjeska_(?P<result>\w+)_answer topjeska_(?P<name>\w+)\((?P<body>[^)]*)\);", re.MULTILINE),
-    re.compile(r"^#define TOPJESKA_NO_VERDICT (\d+)u$", re.MULTILINE),
+    re.compile(
+        r"(?:^/\* (?P<words>[^/]*?) \*/\n)?"
+        r"^#define TOPJESKA_(?P<name>\w+)(?: |\(n\) \()(?P<number>\d+)u?(?: \* \(n\)\))?$",
+        re.MULTILINE,
+    ),
     ";",
     re.compile(r"\w+(?=\s*(?:[,;]|$))"),
     in_c,
@@ -89,7 +109,11 @@ C = Language(
 RUST = Language(
     re.compile(r"^#\[repr\(C\)\](?:\s#\[.*\])*\spub struct (?P<name>\w+)Answer \{(?P<body>[^}]*)\}", re.MULTILINE),
     re.compile(r'\bpub (?:extern "C" )?fn topjeska_(?P<name>\w+)\((?P<body>[^)]*)\) -> (?P<result>\w+)Answer'),
-    re.compile(r"^(?:pub )?const NO_VERDICT: u64 = (\d+);$", re.MULTILINE),
+    re.compile(
+        r"(?P<words>(?:^/// .*\n)*)"
+        r"^(?:pub )?const (?:fn )?(?P<name>\w+)(?:: \w+ = |\(n: usize\) -> usize \{\s+)(?P<number>\d+)(?: \* n$|;$)",
+        re.MULTILINE,
+    ),
     ",",
     re.compile(r"\w+(?=: )"),
     in_rust,
@@ -102,13 +126,19 @@ def listed(language: Language, body: str, between: str) -> list[Named]:
     return [named for part in body.split(between) if part.strip() for named in language.named(part)]
 
 
+def one_line(comment: str) -> str:
+    """The words of a comment in one line."""
+    return " ".join(re.sub(r"^(?: \*|///)", "", comment, flags=re.MULTILINE).split())
+
+
 def declared(language: Language, text: str) -> Interface:
     """What a text declares."""
     structs, functions = language.struct.finditer(text), language.function.finditer(text)
+    constants = language.constant.finditer(text)
     return Interface(
         {found["name"].lower(): listed(language, found["body"], language.field_end) for found in structs},
         {found["name"]: (found["result"].lower(), listed(language, found["body"], ",")) for found in functions},
-        language.filler.findall(text),
+        {found["name"].upper(): Constant(int(found["number"]), one_line(found["words"] or "")) for found in constants},
     )
 
 
@@ -131,19 +161,118 @@ def expected(operation: str) -> list[Named]:
 ASSUMED = Interface(
     {operation: [(name, "u64") for name in names] for operation, names in FIELDS.items()},
     {operation: (operation, expected(operation)) for operation in FIELDS},
-    [str(reading.NO_VERDICT)],
+    {"NO_VERDICT": Constant(reading.NO_VERDICT, "")},
 )
 
 
+def filler(of: Interface) -> int | None:
+    """What a refused replay has in place of a verdict."""
+    return of.constants["NO_VERDICT"].number if "NO_VERDICT" in of.constants else None
+
+
 def differing(one: Interface, other: Interface) -> list[str]:
-    """What two files declare differently; empty where they agree."""
-    wrong = [] if one.fillers == other.fillers else ["the filler of a refused replay"]
+    """What two files declare differently of fields, parameters and the filler; empty where they agree."""
+    wrong = [] if filler(one) == filler(other) else ["the filler of a refused replay"]
     for operation in sorted({*one.fields, *other.fields, *one.functions, *other.functions}):
         if one.fields.get(operation) != other.fields.get(operation):
             wrong.append(f"the fields of {operation}")
         if one.functions.get(operation) != other.functions.get(operation):
             wrong.append(f"the parameters of {operation}")
     return wrong
+
+
+# ---- constants
+
+
+def with_place(words: str, place: str) -> str:
+    """Words and what their place means, as a comment has them, which in C is plain ASCII."""
+    return (f"{words} Place: {place}." if place else words).replace("×", "*")
+
+
+def asked(question: rules.Question) -> str:
+    """A question as a comment has it, with who asks it where not all do."""
+    by = "" if question.asked_by == rules.ALL else f" ({question.asked_by})"
+    return with_place(question.words + by, question.place)
+
+
+def judged(verdict: rules.Verdict) -> str:
+    """A verdict as a comment has it."""
+    return with_place(f"{verdict.words[0].upper()}{verdict.words[1:]}.", verdict.place)
+
+
+# The constants whose name says all, and the words of the others by their numbers.
+NAMED = {
+    "MOST_SLABS": rules.MOST,
+    "NO_VERDICT": rules.NO_VERDICT,
+    "PLAN_SPACE": reading.plan_space(1),
+    "DEADLOCK_SPACE": reading.deadlock_space(1),
+    **{f"METHOD_{name}": number for number, name in rules.METHODS.items()},
+}
+WORDED = {
+    "REFUSAL": {number: asked(question) for number, question in rules.QUESTIONS.items()},
+    "VERDICT": {number: judged(verdict) for number, verdict in rules.VERDICTS.items()},
+}
+
+
+@functools.cache
+def version() -> str:
+    """The version of the Rust crate."""
+    return re.findall(r'^version = "(.*)"$', MANIFEST.read_text(), re.MULTILINE)[0]
+
+
+def versions() -> dict[str, int]:
+    """The parts of the version by the header's names; the wrapper has cargo's."""
+    parts = ("VERSION_MAJOR", "VERSION_MINOR", "VERSION_PATCH")
+    return dict(zip(parts, map(int, version().split(".")), strict=True))
+
+
+def misnumbered(path: Path, constants: dict[str, Constant]) -> list[str]:
+    """The constants of a file that are not what tools/rules.py, the reading and the crate's version say."""
+    right = NAMED | (versions() if path == HEADER else {})
+    wrong = [name for name, number in right.items() if name not in constants or constants[name].number != number]
+    for kind, words in WORDED.items():
+        found = {name: constant for name, constant in constants.items() if name.startswith(f"{kind}_")}
+        wrong += [name for name, constant in found.items() if words.get(constant.number) != constant.words]
+        wrong += [f"{kind} {number}" for number in words if number not in {c.number for c in found.values()}]
+    return wrong
+
+
+def unshared(header: Interface, wrapper: Interface) -> list[str]:
+    """The constants that header and wrapper do not both have, or with two numbers; the version is cargo's."""
+    one, other = ({name: c.number for name, c in of.constants.items()} for of in (header, wrapper))
+    return sorted({name for name, _ in one.items() ^ other.items()} - versions().keys())
+
+
+def constants_wrong() -> Iterator[tuple[str, list[str]]]:
+    """What is wrong with the constants, by what is held to what."""
+    header, wrapper = interface(HEADER), interface(WRAPPER)
+    yield "the header, its numbers and words", misnumbered(HEADER, header.constants)
+    yield "the Rust wrapper, its numbers and words", misnumbered(WRAPPER, wrapper.constants)
+    yield "the header and the Rust wrapper", unshared(header, wrapper)
+    told = re.findall(r'^#define TOPJESKA_VERSION "(.*)"$', HEADER.read_text(), re.MULTILINE)
+    yield "the header and rust/Cargo.toml", [] if told == [version()] else [f"version {told}, {version()}"]
+
+
+# ---- the stack
+
+STACK = ["-O2", "-pthread", "-Wl,-z,now"]  # The loader's work at a first call is not the library's.
+# The thread's own part, which the table has too, is the C library's.
+NEAR = 4.0
+
+
+def mistabled(said: str) -> list[str]:
+    """The rows of the header's table of stacks that are not near what stack.c has measured."""
+    table = dict(re.findall(r"^ \* {5}(\S.*\S) +(\d+) KiB", HEADER.read_text(), re.MULTILINE))
+    measured = dict(re.findall(r"^stack of (.*): (\d+) bytes$", said, re.MULTILINE))
+    if table.keys() != measured.keys() or len(table) != len(FIELDS):
+        return [f"rows {sorted(table)}, measured {sorted(measured)}"]
+    rows = [(name, int(said_kib), int(measured[name]) / 1024) for name, said_kib in table.items()]
+    return [f"{name}: {kib} KiB, measured {used:.1f}" for name, kib, used in rows if abs(used - kib) > NEAR]
+
+
+def stacked(library: Path, folder: Path, include: Path = INCLUDE) -> Count:
+    """The tests of stack.c against a header."""
+    return tried(folder / "stack", ["stack.c"], library, STACK, include)
 
 
 # ---- exchanges, which must be noticed
@@ -165,6 +294,33 @@ def exchanges(path: Path, pattern: re.Pattern[str]) -> Iterator[tuple[str, str]]
             yield f"{path.name}, {found['name']}: {one} and {other}", done
 
 
+def replaced(text: str, found: re.Match[str], number: str) -> str:
+    """A text with another number for a constant."""
+    return text[: found.start("number")] + number + text[found.end("number") :]
+
+
+def renumbered(path: Path) -> Iterator[tuple[str, str]]:
+    """A file with the numbers of two constants exchanged, each time with what was done."""
+    text = path.read_text()
+    for one, other in itertools.combinations(LANGUAGES[path].constant.finditer(text), 2):
+        if one["number"] != other["number"]:
+            done = replaced(replaced(text, other, one["number"]), one, other["number"])
+            yield f"{path.name}: {one['name']} and {other['name']}", done
+
+
+# A number that no constant has; the constants that no call of fields.c takes or answers.
+OTHER = "77"
+UNCALLED = {"REFUSAL_RECORD", "REFUSAL_STALL", "STACK_BYTES", "VERSION_MAJOR", "VERSION_MINOR", "VERSION_PATCH"}
+
+
+def altered() -> Iterator[tuple[str, str]]:
+    """The header with another number for one constant that fields.c names."""
+    text = HEADER.read_text()
+    for found in C.constant.finditer(text):
+        if found["name"] not in UNCALLED:
+            yield f"{found['name']} {OTHER}", replaced(text, found, OTHER)
+
+
 def rerouted() -> Iterator[tuple[str, str]]:
     """The header with two lists of one type exchanged on the way to the library, by a macro."""
     text = HEADER.read_text()
@@ -180,18 +336,26 @@ def rerouted() -> Iterator[tuple[str, str]]:
 
 
 def trials(library: Path) -> Iterator[tuple[str, bool]]:
-    """Each exchange, and whether it is noticed: in a file by reading it, before the library by running fields.c."""
+    """Each exchange, and whether it is noticed: in a file by reading it, before the library by running a program."""
     for path, language in LANGUAGES.items():
         for pattern in (language.struct, language.function):
             for name, text in exchanges(path, pattern):
                 yield name, bool(differing(declared(language, text), ASSUMED))
+    for path in (HEADER, WRAPPER):
+        for name, text in renumbered(path):
+            yield name, bool(misnumbered(path, declared(LANGUAGES[path], text).constants))
     folder = TARGET / "exchanged"
     folder.mkdir(parents=True, exist_ok=True)
-    for name, text in itertools.chain(exchanges(HEADER, C.struct), rerouted()):
+    for name, text in itertools.chain(exchanges(HEADER, C.struct), rerouted(), altered()):
         (folder / HEADER.name).write_text(text)
         count = tried(folder / "fields", ["fields.c"], library, include=folder)
         # It runs to its end and counts what differs: a program that is not built would show nothing.
         yield f"fields.c against {name}", count.passed > 0 and count.failed > 0
+    bound = next(found for found in C.constant.finditer(HEADER.read_text()) if found["name"] == "STACK_BYTES")
+    for kib, above in ((32, len(FIELDS)), (100, 1)):
+        (folder / HEADER.name).write_text(replaced(HEADER.read_text(), bound, str(kib * 1024)))
+        count = stacked(library, folder, folder)
+        yield f"stack.c against a bound of {kib} KiB", count.passed > 0 and count.failed == above
 
 
 def main() -> int:
@@ -207,14 +371,21 @@ def main() -> int:
         for what in wrong:
             print(f"failed: the header and {name}: {what}")
         passed, failed = passed + (not wrong), failed + len(wrong)
-    count = tried(TARGET / "fields", ["fields.c"], library, ["-O2"])
-    print(f"fields.c: {count.passed} passed, {count.failed} failed", *filter(None, [count.said]), sep="\n")
+    stack = stacked(library, TARGET)
+    for name, wrong in (*constants_wrong(), ("the header's table and stack.c", mistabled(stack.said))):
+        for what in wrong:
+            print(f"failed: {name}: {what}")
+        passed, failed = passed + (not wrong), failed + len(wrong)
+    fields = tried(TARGET / "fields", ["fields.c"], library, ["-O2"])
+    for name, count in (("fields.c", fields), ("stack.c", stack)):
+        print(f"{name}: {count.passed} passed, {count.failed} failed", *filter(None, [count.said]), sep="\n")
+        passed, failed = passed + count.passed, failed + count.failed
     tests = list(trials(library))
     unseen = [name for name, noticed in tests if not noticed]
     for name in unseen:
         print(f"failed: not noticed: {name}")
     print(f"exchanges: {len(tests) - len(unseen)} passed, {len(unseen)} failed")
-    passed, failed = passed + count.passed + len(tests) - len(unseen), failed + count.failed + len(unseen)
+    passed, failed = passed + len(tests) - len(unseen), failed + len(unseen)
     print(f"{passed} passed, {failed} failed")
     return 1 if failed or not passed else 0
 

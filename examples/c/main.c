@@ -38,24 +38,24 @@ static void accepted(uint64_t refusal, uint64_t place) {
 
 /* Prints what the library says of a sheet. */
 static void show(const sheet *s) {
-    uint16_t lifts[4 * MOST], locked[2 * MOST];
+    uint16_t lifts[TOPJESKA_PLAN_SPACE(MOST)], locked[TOPJESKA_DEADLOCK_SPACE(MOST)];
     topjeska_check_answer checked = topjeska_check(s->now, s->n, s->goal, s->n);
     accepted(checked.refusal, checked.place);
-    topjeska_plan_answer plan =
-        topjeska_plan(2, s->now, s->n, s->goal, s->n, lifts, 4 * s->n);
+    topjeska_plan_answer plan = topjeska_plan(TOPJESKA_METHOD_GN1, s->now, s->n, s->goal, s->n,
+                                              lifts, TOPJESKA_PLAN_SPACE(s->n));
     accepted(plan.refusal, plan.place);
     printf("%s lifts", s->name);
     print_pairs(lifts, plan.count, "->");
     printf("%s changed %" PRIu64 "\n", s->name, plan.changed);
     topjeska_deadlock_answer deadlock =
-        topjeska_deadlock(s->now, s->n, s->goal, s->n, locked, 2 * s->n);
+        topjeska_deadlock(s->now, s->n, s->goal, s->n, locked, TOPJESKA_DEADLOCK_SPACE(s->n));
     accepted(deadlock.refusal, deadlock.place);
     printf("%s deadlock", s->name);
     print_pairs(locked, deadlock.count, " ");
     topjeska_replay_answer replay =
         topjeska_replay(s->now, s->n, s->goal, s->n, lifts, 2 * plan.count);
     accepted(replay.refusal, replay.place);
-    if (replay.verdict == 0)
+    if (replay.verdict == TOPJESKA_VERDICT_ARRIVES)
         printf("%s arrives\n", s->name);
     else
         printf("%s does not arrive: verdict %" PRIu64 "\n", s->name, replay.verdict);
@@ -68,14 +68,15 @@ int main(void) {
     const sheet *s2 = &sheets[0];
     topjeska_replay_answer replay = topjeska_replay(s2->now, s2->n, s2->goal, s2->n, NULL, 0);
     accepted(replay.refusal, replay.place);
-    if (replay.verdict == 5)
+    if (replay.verdict == TOPJESKA_VERDICT_ELSEWHERE)
         printf("S2 without lifts: slab %" PRIu64 " differs\n", replay.place);
     else
         printf("S2 without lifts: verdict %" PRIu64 "\n", replay.verdict);
 
     const uint16_t bad[] = {2, 1, 5}, ground[] = {0, 0, 0};
-    uint16_t space[12];
-    topjeska_plan_answer refused = topjeska_plan(1, bad, 3, ground, 3, space, 12);
+    uint16_t space[TOPJESKA_PLAN_SPACE(3)];
+    topjeska_plan_answer refused =
+        topjeska_plan(TOPJESKA_METHOD_US, bad, 3, ground, 3, space, TOPJESKA_PLAN_SPACE(3));
     printf("2 1 5: refused by question %" PRIu64 " at %" PRIu64 "\n", refused.refusal, refused.place);
     return 0;
 }

@@ -11,17 +11,17 @@ fn main() -> Result<(), ReplayError> {
     for (name, now, goal) in sheets {
         check(now, goal)?;
         let made = plan(Method::Gn1, now, goal)?;
-        println!("{name} lifts{}", listed(&made.moves, "->"));
+        println!("{name} lifts{}", listed(&made.lifts, "->"));
         println!("{name} changed {}", made.changed);
         println!("{name} deadlock{}", listed(&deadlock(now, goal)?, " "));
-        match replay(now, goal, &made.moves)? {
+        match replay(now, goal, &made.lifts)? {
             Verdict::Arrives => println!("{name} arrives"),
             other => println!("{name} does not arrive: {other:?}"),
         }
     }
     let (_, now, goal) = sheets[0];
     match replay(now, goal, &[])? {
-        Verdict::Elsewhere { block } => println!("S2 without lifts: slab {block} differs"),
+        Verdict::Elsewhere { slab } => println!("S2 without lifts: slab {slab} differs"),
         other => println!("S2 without lifts: {other:?}"),
     }
     match plan(Method::Us, &[2, 1, 5], &[0, 0, 0]) {

@@ -1,12 +1,9 @@
-//! Safe functions over libtopjeska.a. A state is a list that says of each block what it rests on: blocks
-//! are numbered from 1, and 0 is the table.
+//! Safe functions over libtopjeska.a, in the words of its header. An arrangement is a list that says of each
+//! slab what it rests on: slabs are numbered from 1, and 0 is the ground. A sheet is two, `now` and `goal`.
 
 use std::fmt;
 
 pub mod ffi;
-
-/// The most blocks of a problem.
-const MOST: usize = 4000;
 
 /// A question of document 01 answered "no": its number, and its place or 0.
 #[derive(Clone, Copy, Debug, PartialEq, Eq)]
@@ -27,47 +24,48 @@ impl fmt::Display for Refusal {
 
 impl std::error::Error for Refusal {}
 
-/// The three methods of document 001, by their numbers in document 01.
+/// The three methods of planning.
 #[derive(Clone, Copy, Debug, PartialEq, Eq)]
+#[repr(u16)]
 pub enum Method {
-    Us = 1,
-    Gn1 = 2,
-    Gn2 = 3,
+    Us = ffi::METHOD_US,
+    Gn1 = ffi::METHOD_GN1,
+    Gn2 = ffi::METHOD_GN2,
 }
 
-/// A block and where it goes.
-pub type Move = [u16; 2];
+/// A slab and its destination.
+pub type Lift = [u16; 2];
 
-/// The moves from the initial state to the goal, and the count of blocks whose entries differ.
+/// The lifts from now to the goal, and the count of slabs whose now and goal entries differ.
 #[derive(Clone, Debug, PartialEq, Eq)]
 pub struct Plan {
-    pub moves: Vec<Move>,
+    pub lifts: Vec<Lift>,
     pub changed: u64,
 }
 
-/// What a replay says; bad moves are counted from 1.
+/// What a replay says; the bad lift is counted from 1.
 #[derive(Clone, Copy, Debug, PartialEq, Eq)]
 pub enum Verdict {
     Arrives,
-    /// The block or the destination is no number of the problem.
+    /// The slab is not in 1 to n or the destination is above n.
     Unknown {
-        at: u64,
+        lift: u64,
     },
-    /// The block is not clear.
+    /// The slab is not clear.
     Covered {
-        at: u64,
+        lift: u64,
     },
-    /// The block already rests there.
+    /// The slab already rests there.
     Idle {
-        at: u64,
+        lift: u64,
     },
-    /// The destination is the block itself or is not clear.
+    /// The destination is the slab itself or a slab that is not clear.
     Taken {
-        at: u64,
+        lift: u64,
     },
-    /// Every move is legal and the end is not the goal: the lowest block that differs.
+    /// All lifts are legal and the end differs from the goal: the lowest slab whose support differs.
     Elsewhere {
-        block: u64,
+        slab: u64,
     },
 }
 
@@ -108,30 +106,30 @@ impl TryFrom<ffi::ReplayAnswer> for Verdict {
 
     fn try_from(answer: ffi::ReplayAnswer) -> Result<Self, ReplayError> {
         accepted(answer.refusal, answer.place)?;
-        let at = answer.place;
+        let lift = answer.place;
         match answer.verdict {
-            0 => Ok(Verdict::Arrives),
-            1 => Ok(Verdict::Unknown { at }),
-            2 => Ok(Verdict::Covered { at }),
-            3 => Ok(Verdict::Idle { at }),
-            4 => Ok(Verdict::Taken { at }),
-            5 => Ok(Verdict::Elsewhere { block: at }),
+            ffi::VERDICT_ARRIVES => Ok(Verdict::Arrives),
+            ffi::VERDICT_UNKNOWN => Ok(Verdict::Unknown { lift }),
+            ffi::VERDICT_COVERED => Ok(Verdict::Covered { lift }),
+            ffi::VERDICT_IDLE => Ok(Verdict::Idle { lift }),
+            ffi::VERDICT_TAKEN => Ok(Verdict::Taken { lift }),
+            ffi::VERDICT_ELSEWHERE => Ok(Verdict::Elsewhere { slab: answer.place }),
             other => Err(ReplayError::NoVerdict(other)),
         }
     }
 }
 
-/// Puts the questions about a problem.
+/// Puts questions 2 to 9 to two lists.
 pub fn check(now: &[u16], goal: &[u16]) -> Result<(), Refusal> {
     // SAFETY: each pointer is a slice's own, with its length.
     let answer = unsafe { ffi::topjeska_check(now.as_ptr(), now.len(), goal.as_ptr(), goal.len()) };
     accepted(answer.refusal, answer.place)
 }
 
-/// The plan of a method.
+/// The lifts of a method.
 pub fn plan(method: Method, now: &[u16], goal: &[u16]) -> Result<Plan, Refusal> {
-    let mut moves = vec![[0; 2]; 2 * now.len().min(MOST)];
-    let space = moves.as_flattened_mut();
+    let mut lifts = vec![[0; 2]; ffi::plan_space(slabs(now)) / 2];
+    let space = lifts.as_flattened_mut();
     // SAFETY: each pointer is a slice's own, with its length; nothing else uses the space.
     let answer = unsafe {
         ffi::topjeska_plan(
@@ -145,16 +143,16 @@ pub fn plan(method: Method, now: &[u16], goal: &[u16]) -> Result<Plan, Refusal> 
         )
     };
     accepted(answer.refusal, answer.place)?;
-    moves.truncate(answer.count as usize);
+    lifts.truncate(answer.count as usize);
     Ok(Plan {
-        moves,
+        lifts,
         changed: answer.changed,
     })
 }
 
-/// The deadlocked blocks, each with the block through which the next is in its way; empty where there is no deadlock.
+/// The deadlocked slabs, each with the slab through which the next one is in its way; empty where there is no deadlock.
 pub fn deadlock(now: &[u16], goal: &[u16]) -> Result<Vec<[u16; 2]>, Refusal> {
-    let mut pairs = vec![[0; 2]; now.len().min(MOST)];
+    let mut pairs = vec![[0; 2]; ffi::deadlock_space(slabs(now)) / 2];
     let space = pairs.as_flattened_mut();
     // SAFETY: each pointer is a slice's own, with its length; nothing else uses the space.
     let answer = unsafe {
@@ -172,9 +170,9 @@ pub fn deadlock(now: &[u16], goal: &[u16]) -> Result<Vec<[u16; 2]>, Refusal> {
     Ok(pairs)
 }
 
-/// Follows moves from the initial state.
-pub fn replay(now: &[u16], goal: &[u16], moves: &[Move]) -> Result<Verdict, ReplayError> {
-    let numbers = moves.as_flattened();
+/// Follows a list of lifts.
+pub fn replay(now: &[u16], goal: &[u16], lifts: &[Lift]) -> Result<Verdict, ReplayError> {
+    let numbers = lifts.as_flattened();
     // SAFETY: each pointer is a slice's own, with its length.
     let answer = unsafe {
         ffi::topjeska_replay(
@@ -187,6 +185,11 @@ pub fn replay(now: &[u16], goal: &[u16], moves: &[Move]) -> Result<Verdict, Repl
         )
     };
     answer.try_into()
+}
+
+/// The slabs that space is made for: none beyond the most, where the library refuses.
+fn slabs(now: &[u16]) -> usize {
+    now.len().min(ffi::MOST_SLABS)
 }
 
 /// An answer's first two fields as a result.
@@ -214,11 +217,11 @@ mod tests {
     #[test]
     fn a_verdict_is_told_by_its_number() {
         assert_eq!(told(0, 0), Ok(Verdict::Arrives));
-        assert_eq!(told(0, 1), Ok(Verdict::Unknown { at: 7 }));
-        assert_eq!(told(0, 2), Ok(Verdict::Covered { at: 7 }));
-        assert_eq!(told(0, 3), Ok(Verdict::Idle { at: 7 }));
-        assert_eq!(told(0, 4), Ok(Verdict::Taken { at: 7 }));
-        assert_eq!(told(0, 5), Ok(Verdict::Elsewhere { block: 7 }));
+        assert_eq!(told(0, 1), Ok(Verdict::Unknown { lift: 7 }));
+        assert_eq!(told(0, 2), Ok(Verdict::Covered { lift: 7 }));
+        assert_eq!(told(0, 3), Ok(Verdict::Idle { lift: 7 }));
+        assert_eq!(told(0, 4), Ok(Verdict::Taken { lift: 7 }));
+        assert_eq!(told(0, 5), Ok(Verdict::Elsewhere { slab: 7 }));
     }
 
     #[test]
@@ -244,6 +247,23 @@ mod tests {
         let text = |answer: Result<Verdict, ReplayError>| answer.unwrap_err().to_string();
         assert_eq!(text(told(4, 0)), "refused by question 4 at 7");
         assert_eq!(text(told(0, 65535)), "65535 is no verdict");
+    }
+
+    #[test]
+    fn a_sheet_beyond_the_most_slabs_is_refused() {
+        let (most, over) = (vec![0; ffi::MOST_SLABS], vec![0; ffi::MOST_SLABS + 1]);
+        let refusal = Refusal {
+            number: ffi::REFUSAL_TOO_MANY,
+            place: 0,
+        };
+        assert_eq!(check(&most, &most), Ok(()));
+        assert_eq!(check(&over, &over), Err(refusal));
+        for method in [Method::Us, Method::Gn1, Method::Gn2] {
+            assert!(plan(method, &most, &most).is_ok());
+            assert_eq!(plan(method, &over, &over), Err(refusal));
+        }
+        assert_eq!(deadlock(&most, &most), Ok(vec![]));
+        assert_eq!(deadlock(&over, &over), Err(refusal));
     }
 
     #[test]

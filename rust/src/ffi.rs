@@ -1,0 +1,170 @@
+//! `include/topjeska.h` in Rust: its constants, answers and functions, in its order.
+
+/// The version of the header, and of this crate.
+pub const VERSION: &str = env!("CARGO_PKG_VERSION");
+
+/// The most slabs of a sheet.
+pub const MOST_SLABS: usize = 4000;
+
+/// The numbers of lent space that planning needs for n slabs.
+pub const fn plan_space(n: usize) -> usize {
+    4 * n
+}
+
+/// The numbers of lent space that the deadlock test needs for n slabs.
+pub const fn deadlock_space(n: usize) -> usize {
+    2 * n
+}
+
+/// The bytes of stack that every call stays below.
+pub const STACK_BYTES: usize = 163840;
+
+/// US: puts down all that is misplaced, then makes constructive lifts.
+pub const METHOD_US: u16 = 1;
+
+/// GN1: makes constructive lifts, and at a stall puts down the lowest misplaced clear slab.
+pub const METHOD_GN1: u16 = 2;
+
+/// GN2: as GN1, but at a stall puts down the lowest slab on the loop.
+pub const METHOD_GN2: u16 = 3;
+
+/// Is the method 1, 2 or 3? (planning)
+pub const REFUSAL_METHOD: u64 = 1;
+
+/// Has the now list at most 4,000 entries?
+pub const REFUSAL_TOO_MANY: u64 = 2;
+
+/// Has the goal list as many?
+pub const REFUSAL_UNEQUAL: u64 = 3;
+
+/// Is every now entry at most n? Place: the lowest slab with a bad entry.
+pub const REFUSAL_NOW_ENTRY: u64 = 4;
+
+/// Does each slab carry at most one slab now? Place: the lowest slab that rests where a
+/// lower-numbered slab rests, the ground excepted.
+pub const REFUSAL_NOW_SHARED: u64 = 5;
+
+/// Does every slab come down to the ground now? Place: the lowest slab that does not.
+pub const REFUSAL_NOW_FLOATING: u64 = 6;
+
+/// Is every goal entry at most n? Place: the lowest slab with a bad entry.
+pub const REFUSAL_GOAL_ENTRY: u64 = 7;
+
+/// Does each slab carry at most one slab in the goal? Place: the lowest slab that rests where a
+/// lower-numbered slab rests, the ground excepted.
+pub const REFUSAL_GOAL_SHARED: u64 = 8;
+
+/// Does every slab come down to the ground in the goal? Place: the lowest slab that does not.
+pub const REFUSAL_GOAL_FLOATING: u64 = 9;
+
+/// Is the lent space large enough? (planning, deadlock test)
+pub const REFUSAL_SPACE: u64 = 10;
+
+/// Has the lift list an even number of entries? (replay)
+pub const REFUSAL_ODD: u64 = 11;
+
+/// Are all bytes of the record there, with its own mark, and nothing after the last record? (program)
+/// Place: the records before it, or 2 * n + 1 for a tail.
+pub const REFUSAL_RECORD: u64 = 12;
+
+/// Was there a slab to put down when no constructive lift existed? (planning)
+pub const REFUSAL_STALL: u64 = 13;
+
+/// Arrives.
+pub const VERDICT_ARRIVES: u64 = 0;
+
+/// The slab is not in 1 to n or the destination is above n. Place: the lift, counted from 1.
+pub const VERDICT_UNKNOWN: u64 = 1;
+
+/// The slab is not clear. Place: the lift, counted from 1.
+pub const VERDICT_COVERED: u64 = 2;
+
+/// It already rests there. Place: the lift, counted from 1.
+pub const VERDICT_IDLE: u64 = 3;
+
+/// The destination is the slab itself or a slab that is not clear. Place: the lift, counted from 1.
+pub const VERDICT_TAKEN: u64 = 4;
+
+/// All lifts are legal and the end differs from the goal. Place: the lowest slab whose support
+/// differs.
+pub const VERDICT_ELSEWHERE: u64 = 5;
+
+/// The verdict of a refused replay: a number that is none.
+pub const NO_VERDICT: u64 = 65535;
+
+/// Whether two lists are a sheet.
+#[repr(C)]
+#[derive(Clone, Copy, Debug, PartialEq, Eq)]
+pub struct CheckAnswer {
+    pub refusal: u64,
+    pub place: u64,
+}
+
+/// The count of lifts written, and the count of slabs whose now and goal entries differ.
+#[repr(C)]
+#[derive(Clone, Copy, Debug, PartialEq, Eq)]
+pub struct PlanAnswer {
+    pub refusal: u64,
+    pub place: u64,
+    pub count: u64,
+    pub changed: u64,
+}
+
+/// The count of deadlocked slabs written.
+#[repr(C)]
+#[derive(Clone, Copy, Debug, PartialEq, Eq)]
+pub struct DeadlockAnswer {
+    pub refusal: u64,
+    pub place: u64,
+    pub count: u64,
+}
+
+/// The verdict, and the place of the refusal or of the verdict.
+#[repr(C)]
+#[derive(Clone, Copy, Debug, PartialEq, Eq)]
+pub struct ReplayAnswer {
+    pub refusal: u64,
+    pub verdict: u64,
+    pub place: u64,
+}
+
+extern "C" {
+    /// Puts questions 2 to 9 to two lists.
+    pub fn topjeska_check(
+        now: *const u16,
+        now_len: usize,
+        goal: *const u16,
+        goal_len: usize,
+    ) -> CheckAnswer;
+
+    /// Writes the lifts of a method to the front of the space, which needs `plan_space` numbers.
+    pub fn topjeska_plan(
+        method: u16,
+        now: *const u16,
+        now_len: usize,
+        goal: *const u16,
+        goal_len: usize,
+        space: *mut u16,
+        space_len: usize,
+    ) -> PlanAnswer;
+
+    /// Writes the deadlock, if any, to the front of the space, which needs `deadlock_space` numbers.
+    pub fn topjeska_deadlock(
+        now: *const u16,
+        now_len: usize,
+        goal: *const u16,
+        goal_len: usize,
+        space: *mut u16,
+        space_len: usize,
+    ) -> DeadlockAnswer;
+
+    /// Follows a list of lifts of any length.
+    pub fn topjeska_replay(
+        now: *const u16,
+        now_len: usize,
+        goal: *const u16,
+        goal_len: usize,
+        lifts: *const u16,
+        lifts_len: usize,
+    ) -> ReplayAnswer;
+}

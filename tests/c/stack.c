@@ -1,0 +1,156 @@
+/* The stack of every call at 4,000 slabs, held to TOPJESKA_STACK_BYTES. Each call runs in a thread
+ * of its own on a painted stack, and what it used is counted from the end of that stack down to
+ * where the paint begins: thread and all, so that a thread with TOPJESKA_STACK_BYTES is enough. The
+ * answers are held too, so that no call ends early. */
+#define _XOPEN_SOURCE 600
+#include <pthread.h>
+#include <stdlib.h>
+
+#include "expect.h"
+
+/* So much stack is lent that a call above the bound is measured and does not crash. */
+enum { SLABS = TOPJESKA_MOST_SLABS, PAINT = 0xA5, PAGE = 4096, LENT = 1 << 20 };
+
+/* The operations, and the most bytes that a call of each used. */
+enum { CHECK, REPLAY, PLAN, DEADLOCK, OPERATIONS };
+static const char *const names[OPERATIONS] = {"check", "replay", "planning", "deadlock test"};
+static size_t most[OPERATIONS];
+
+/* What the calls are lent, and their answers. */
+static uint16_t now[SLABS + 1], goal[SLABS + 1], space[TOPJESKA_PLAN_SPACE(SLABS)], method;
+static size_t n = SLABS, lifts_len;
+static topjeska_check_answer check_answer;
+static topjeska_plan_answer plan_answer;
+static topjeska_deadlock_answer deadlock_answer;
+static topjeska_replay_answer replay_answer;
+
+/* One call, as a thread. */
+static void *call(void *operation) {
+    switch (*(const int *)operation) {
+    case CHECK:
+        check_answer = topjeska_check(now, n, goal, n);
+        break;
+    case REPLAY:
+        replay_answer = topjeska_replay(now, n, goal, n, space, lifts_len);
+        break;
+    case PLAN:
+        plan_answer = topjeska_plan(method, now, n, goal, n, space, TOPJESKA_PLAN_SPACE(SLABS));
+        break;
+    case DEADLOCK:
+        deadlock_answer = topjeska_deadlock(now, n, goal, n, space, TOPJESKA_DEADLOCK_SPACE(SLABS));
+        break;
+    }
+    return NULL;
+}
+
+/* Runs a call on a painted stack, and keeps how much it used. */
+static void measure(int operation) {
+    static void *stack;
+    pthread_attr_t attributes;
+    pthread_t thread;
+    if ((stack == NULL && posix_memalign(&stack, PAGE, LENT) != 0) ||
+        memset(stack, PAINT, LENT) != stack || pthread_attr_init(&attributes) != 0 ||
+        pthread_attr_setstack(&attributes, stack, LENT) != 0 ||
+        pthread_create(&thread, &attributes, call, &operation) != 0 ||
+        pthread_join(thread, NULL) != 0) {
+        printf("there is no thread on a stack of its own\n");
+        exit(2);
+    }
+    pthread_attr_destroy(&attributes);
+    const unsigned char *bytes = stack;
+    size_t unused = 0;
+    while (unused < LENT && bytes[unused] == PAINT)
+        unused++;
+    if (LENT - unused > most[operation])
+        most[operation] = LENT - unused;
+}
+
+/* Every operation on the sheet that is there: the count of lifts by method 1 and by 2 and 3, all of
+ * which arrive, the entries that differ, the deadlocked slabs, and how the space then begins. */
+static void answered(const char *name, uint64_t put_down, uint64_t built, uint64_t changed,
+                     uint64_t deadlocked, const uint16_t *front) {
+    measure(CHECK);
+    check_is(name, check_answer, 0, 0);
+    for (method = TOPJESKA_METHOD_US; method <= TOPJESKA_METHOD_GN2; method++) {
+        measure(PLAN);
+        plan_is(name, plan_answer, 0, 0, method == TOPJESKA_METHOD_US ? put_down : built, changed);
+        lifts_len = 2 * plan_answer.count;
+        measure(REPLAY);
+        replay_is(name, replay_answer, 0, TOPJESKA_VERDICT_ARRIVES, 0);
+    }
+    measure(DEADLOCK);
+    deadlock_is(name, deadlock_answer, 0, 0, deadlocked);
+    space_is(name, space, front, 4);
+}
+
+/* Every operation refused. */
+static void refused(const char *name, uint64_t refusal, uint64_t place) {
+    method = TOPJESKA_METHOD_GN2;
+    for (int operation = 0; operation < OPERATIONS; operation++)
+        measure(operation);
+    check_is(name, check_answer, refusal, place);
+    plan_is(name, plan_answer, refusal, place, 0, 0);
+    deadlock_is(name, deadlock_answer, refusal, place, 0);
+    replay_is(name, replay_answer, refusal, TOPJESKA_NO_VERDICT, place);
+}
+
+/* One pile that shall stand the other way up. Methods 2 and 3 lift each slab once, from the top. */
+static void turned_over(void) {
+    const uint16_t front[] = {SLABS, 0, SLABS - 1, SLABS};
+    for (uint16_t slab = 1; slab <= SLABS; slab++) {
+        now[slab - 1] = slab - 1;
+        goal[slab - 1] = slab == SLABS ? 0 : slab + 1;
+    }
+    answered("one pile turned over", 2 * (SLABS - 1), SLABS, SLABS, 0, front);
+}
+
+/* Piles of two in a ring: each upper slab goes to the next pile, and all are in one deadlock. */
+static void ring(void) {
+    enum { HALF = SLABS / 2 };
+    const uint16_t front[] = {HALF + 1, 2, HALF + 2, 3};
+    for (uint16_t foot = 1; foot <= HALF; foot++) {
+        now[foot - 1] = goal[foot - 1] = 0;
+        now[HALF + foot - 1] = foot;
+        goal[HALF + foot - 1] = foot % HALF + 1;
+    }
+    answered("a ring", 2 * HALF, HALF + 1, HALF, HALF, front);
+}
+
+/* S5 of document 01 over and over: by method 1 six lifts each, by 2 and 3 five, four entries
+ * differ. The deadlock test shows the first deadlock, the pair 1 2; behind it stands the list of
+ * method 3. */
+static void many_deadlocks(void) {
+    enum { SMALL = 5, COPIES = SLABS / SMALL };
+    const uint16_t s5_now[] = {2, 3, 0, 5, 0}, s5_goal[] = {5, 0, 0, 3, 2};
+    for (uint16_t slab = 0; slab < COPIES * SMALL; slab++) {
+        uint16_t first = slab - slab % SMALL;
+        now[slab] = s5_now[slab % SMALL] == 0 ? 0 : first + s5_now[slab % SMALL];
+        goal[slab] = s5_goal[slab % SMALL] == 0 ? 0 : first + s5_goal[slab % SMALL];
+    }
+    const uint16_t front[] = {1, 2, 2, 0};
+    answered("many deadlocks", 6 * COPIES, 5 * COPIES, 4 * COPIES, 1, front);
+}
+
+/* A goal of which nothing comes down to the ground, and then a slab too many. */
+static void faulty(void) {
+    for (uint16_t slab = 1; slab <= SLABS; slab++) {
+        now[slab - 1] = 0;
+        goal[slab - 1] = slab % SLABS + 1;
+    }
+    refused("a floating goal", TOPJESKA_REFUSAL_GOAL_FLOATING, 1);
+    n = SLABS + 1;
+    refused("a slab too many", TOPJESKA_REFUSAL_TOO_MANY, 0);
+}
+
+int main(void) {
+    turned_over();
+    ring();
+    many_deadlocks();
+    faulty();
+    for (int operation = 0; operation < OPERATIONS; operation++) {
+        printf("stack of %s: %zu bytes\n", names[operation], most[operation]);
+        count(most[operation] < TOPJESKA_STACK_BYTES, names[operation], most[operation],
+              TOPJESKA_STACK_BYTES, 0, 0);
+    }
+    return ended();
+}
