@@ -1,8 +1,11 @@
 """Holds the pages of docs/ to what they speak of, and runs the tests of the tools.
 
-crates/: each statement of specs/ has a proof in proofs/ of its crate. docs/WHY.md: each theorem or law stands in the lines that the page names, each sheet has the lists and counts that the
-page states (by reading.py), each picture is what tools/draw makes of its sheet. docs/DEMANDS.md: each file, definition,
-function and must-fail edit that it names exists. The tests of the tools are those of commands.py.
+crates/: each statement of specs/ has a proof in proofs/ of its crate. docs/WHY.md: each theorem or law stands in the
+lines that the page names, each sheet has the lists and counts that the page states, the table of the five piles has its
+lifts and reasons (all by reading.py), each picture is what tools/draw makes of its sheet. docs/CLASSROOM.md: what is to
+be changed stands there once, and its sheet has the numbers that the page states. docs/DEMANDS.md: each file,
+definition, function and must-fail edit that it names exists. The tests of the tools are those of commands.py,
+pictures.py and page_data.py.
 With --write it corrects the line numbers of docs/WHY.md and draws the pictures again.
 """
 
@@ -14,6 +17,8 @@ from pathlib import Path
 from typing import NamedTuple
 
 import commands
+import page_data
+import pictures as of_draw
 import reading
 import sheets
 from case import flat, planning, read, testing
@@ -22,6 +27,7 @@ from reading import METHODS, Pair, Yard
 
 WHY = ROOT / "docs" / "WHY.md"
 DEMANDS = ROOT / "docs" / "DEMANDS.md"
+CLASSROOM = ROOT / "docs" / "CLASSROOM.md"
 PICTURES = ROOT / "docs" / "pictures"
 THEOREMS = "crates/blocks/specs/Demands.antt"
 SEARCHED = 7
@@ -165,7 +171,7 @@ class Row(NamedTuple):
 
 
 def table(text: str, heading: str) -> list[list[str]]:
-    """The cells of the first table under a heading, its head left out."""
+    """The cells of the tables under a heading, the first one's head left out."""
     section = text.split(f"\n## {heading}\n", 1)[-1].split("\n## ", 1)[0]
     rows = [line for line in section.splitlines() if line.startswith("|")]
     return [[cell.strip() for cell in row.strip("|").split("|")] for row in rows[2:]]
@@ -226,10 +232,15 @@ def page_sheets() -> Iterator[Test]:
             yield f"WHY.md, list {listed}", "" if arrives and longer else "does not arrive, or costs no lift"
 
 
+# How a picture is drawn, by what its name ends with.
+DRAWN = {"-lifts-3": ["--method", "3"], "-lifts": ["--method", "2"], "-ring": ["--ring"], "-loop": ["--loop"], "": []}
+
+
 def picture(name: str) -> str:
-    """What tools/draw makes for a picture's name: the sheet of that name, with `-lifts` its list too."""
-    row = {known.lower(): row for known, row in rows().items()}[name.removesuffix("-lifts")]
-    return commands.drawn(row.typed(), row.lifts if name.endswith("-lifts") else "")
+    """What tools/draw makes for a picture's name: the sheet of that name, with what the name ends with."""
+    ending = next(ending for ending in DRAWN if name.endswith(ending))
+    row = {known.lower(): row for known, row in rows().items()}[name.removesuffix(ending)]
+    return commands.run(["draw", *DRAWN[ending], f"{row.name}: {row.typed()}"]).stdout
 
 
 def linked() -> set[str]:
@@ -366,10 +377,45 @@ def proved() -> Iterator[Test]:
 def waiting() -> Iterator[Test]:
     """The sheet of the belief that a stalled slab is deadlocked: three are clear and misplaced, two in a deadlock."""
     now, goal = rows()["waits"].sheet()
-    stalled = [slab for slab in reading.misplaced(now, goal) if reading.clear(now, slab)]
+    waiters = [slab for slab in reading.misplaced(now, goal) if reading.clear(now, slab)]
     ringed = reading.ringed(now, goal)
-    wrong = (stalled, reading.constructive(now, goal), ringed) != ([1, 2, 4], 0, [2, 4])
-    yield "WHY.md, who waits and who is deadlocked", f"{stalled} wait, {ringed} are deadlocked" if wrong else ""
+    wrong = (waiters, reading.constructive(now, goal), ringed) != ([1, 2, 4], 0, [2, 4])
+    yield "WHY.md, who waits and who is deadlocked", f"{waiters} wait, {ringed} are deadlocked" if wrong else ""
+
+
+def five_piles() -> Iterator[Test]:
+    """The table that explains each lift of the five piles: the lifts of methods 2 and 3, what each is, and the loop."""
+    now, goal = rows()["five"].sheet()
+    stated = [row for row in table(text_of(WHY), "The three methods") if "→" in row[0]]
+    pairs = read(planning(2, now, goal)).pairs
+    yield "WHY.md, the five piles by method 3", commands.unlike(read(planning(3, now, goal)).pairs, pairs)
+    right, loops = [], []
+    for number, (slab, place) in enumerate(pairs, 1):
+        home = reading.is_constructive(now, goal, slab)
+        right.append([f"{number}. {slab}→{place}", "home" if home else "put down"])
+        loops.append("" if home else f"the loop is {', '.join(map(str, reading.loop(now, goal)))}")
+        now = reading.lifted(now, slab, place)
+    yield "WHY.md, the lifts of the five piles", commands.unlike([row[:2] for row in stated], right)
+    missing = [loop for loop, row in zip(loops, stated) if loop not in row[2]]
+    yield "WHY.md, the loop of the five piles", f"{missing} is not said" if missing else ""
+
+
+def classroom() -> Iterator[Test]:
+    """The exercises: what is replaced stands in its file once, and the sheet has the numbers that the checker shows."""
+    text = text_of(CLASSROOM)
+    edits = re.findall(r"^    sed -i 's/(.+)/(.+)/' (\S+)$", text, re.MULTILINE)
+    yield "CLASSROOM.md, exercises", "" if len(edits) == 2 else f"the page has {len(edits)}"
+    for old, _, file in edits:
+        times = text_of(ROOT / file).count(old.replace("\\", ""))
+        yield f"CLASSROOM.md, {old}", "" if times == 1 else f"stands {times} times in {file}"
+    shown = set(re.findall(r'tools/sheet \w+ (?:\d )?"([\d /]+)"', text))
+    yield "CLASSROOM.md, sheet", "" if len(shown) == 1 else f"the page has {shown}"
+    now, goal = sheet_of(shown.pop())
+    found = len(read(planning(1, now, goal)).pairs), reading.shortest(now, goal), len(reading.misplaced(now, goal))
+    numbers = re.search(r"`length p` = (\d+), `length r` = (\d+), .* = \d+, `misplacedCount s g` = (\d+)", text)
+    told = tuple(map(int, numbers.groups())) if numbers else ()
+    yield "CLASSROOM.md, numbers", commands.unlike(told, found)
+    yield "CLASSROOM.md, list", "" if reading.replay(now, goal, [1, 3]) == (0, 0, 0) else "1→3 does not arrive"
 
 
 def main() -> int:
@@ -380,8 +426,9 @@ def main() -> int:
         for made, name in ((picture(name), name) for name in linked()):
             if made:
                 (PICTURES / f"{name}.svg").write_text(made, encoding="utf-8")
-    of_tools = commands.tests({name: row.typed() for name, row in rows().items()})
-    done = list(itertools.chain(proved(), references(), page_sheets(), waiting(), pictures(), demands(), of_tools))
+    of_tools = [commands.tests({name: row.typed() for name, row in rows().items()}), of_draw.tests(), page_data.tests()]
+    of_why = [references(), page_sheets(), waiting(), five_piles(), pictures()]
+    done = list(itertools.chain(proved(), *of_why, classroom(), demands(), *of_tools))
     for what, wrong in done:
         if wrong:
             print(f"{what}: {wrong}")

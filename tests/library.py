@@ -1,22 +1,17 @@
-"""A library of the four operations, called through ctypes under the names of include/topjeska.h.
+"""A library of the four operations, called as tools/topjeska.py has them, with guards about what it is lent.
 
 An outcome is the answer's numbers and the whole space afterwards.
 """
 
-import ctypes
-import subprocess
+import sys
 from array import array
 from pathlib import Path
 from typing import NamedTuple
 
 from case import SPACED, Answer, Case, flat
 
-FIELDS = {
-    "check": ("refusal", "place"),
-    "plan": ("refusal", "place", "count", "changed"),
-    "deadlock": ("refusal", "place", "count"),
-    "replay": ("refusal", "verdict", "place"),
-}
+sys.path.append(str(Path(__file__).resolve().parent.parent / "tools"))
+from topjeska import FIELDS, functions, shared_object  # noqa: E402
 
 
 class Outcome(NamedTuple):
@@ -44,30 +39,12 @@ def unwritten(length: int) -> array:
 GUARD = unwritten(16)
 
 
-def shared_object(archive: Path, folder: Path) -> Path:
-    """A shared object with everything of a static library."""
-    folder.mkdir(parents=True, exist_ok=True)
-    made = folder / f"{archive.stem}.so"
-    whole = ["-Wl,--whole-archive", str(archive), "-Wl,--no-whole-archive"]
-    subprocess.run(["cc", "-shared", "-o", str(made), *whole], check=True)
-    return made
-
-
 class Library:
     """The operations of a shared object."""
 
     def __init__(self, path: Path, prefix: str) -> None:
         """Loads the shared object; every name begins with the prefix."""
-        loaded = ctypes.CDLL(str(path))
-        lent = [ctypes.c_void_p, ctypes.c_size_t]
-        self.functions = {}
-        for operation, fields in FIELDS.items():
-            function = getattr(loaded, f"{prefix}_{operation}")
-            layout = [(field, ctypes.c_uint64) for field in fields]
-            function.restype = type(operation, (ctypes.Structure,), {"_fields_": layout})
-            first = [ctypes.c_uint16] if operation == "plan" else []
-            function.argtypes = first + lent * (2 if operation == "check" else 3)
-            self.functions[operation] = function
+        self.functions = functions(path, prefix)
 
     def run(self, case: Case) -> Outcome:
         """Makes the call, with a guard on both sides of the space and behind each list."""

@@ -13,7 +13,8 @@ import sys
 from collections.abc import Iterable
 from typing import NamedTuple
 
-from lines import TOP, Fault, is_number
+from lines import Fault, is_number
+from rules import TOP
 
 # The marks with their field counts.
 FIELDS = {"HD": 2, "NW": 1, "GL": 1, "PL": 2, "LF": 2, "NO": 2}

@@ -1,0 +1,214 @@
+"""The library's answers about a sheet, as objects that `tools/sheet --json` prints and tools/page embeds, and in words."""
+
+import textwrap
+from typing import Any
+
+from lines import Lift, Sheet, all_shown, counted
+from rules import METHODS, MOST, QUESTIONS
+from steps import Pair, Step, deadlocked, length_in_words, lift_in_words, links, listed, reason, steps, told
+from steps import verdict_in_words
+from topjeska import Library
+
+# An answer: what was asked, the sheet, and the numbers and words of the answer.
+Answer = dict[str, Any]
+
+WIDTH = 100
+
+
+# ---- answers as objects
+
+
+def asked(command: str, sheet: Sheet) -> Answer:
+    """What every answer begins with."""
+    return {"command": command, "sheet": sheet.line(), "name": sheet.name}
+
+
+def refused(begun: Answer, sheet: Sheet, refusal: int, place: int) -> Answer:
+    """A refusal: its number and place, and both in words."""
+    return {**begun, "refusal": refusal, "place": place, "words": refusal_in_words(begun, sheet, refusal, place)}
+
+
+def step_of(method: int, step: Step) -> Answer:
+    """A lift with its reason."""
+    told_of = {"slab": step.slab, "destination": step.destination, "home": step.home}
+    return {**told_of, "loop": step.loop, "reason": reason(method, step)}
+
+
+def plan(library: Library, method: int, sheet: Sheet) -> Answer:
+    """Planning: the list with a reason for each lift, and how short it is."""
+    begun = {**asked("plan", sheet), "method": method}
+    made = library.plan(method, sheet)
+    if made.refusal:
+        return refused(begun, sheet, made.refusal, made.place)
+    about, lifts = told(library, sheet), made.lifts()
+    return {
+        **begun,
+        "refusal": 0,
+        "place": 0,
+        "count": len(lifts),
+        "changed": made.changed,
+        "misplaced": about.misplaced,
+        "deadlock": about.ring,
+        "floor": about.floor(),
+        "counts": about.counts,
+        "words": length_in_words(about, len(lifts)),
+        "lifts": [step_of(method, step) for step in steps(library, sheet, lifts)],
+    }
+
+
+def deadlock(library: Library, sheet: Sheet) -> Answer:
+    """The deadlock test: the ring, and what it costs."""
+    begun, found = asked("deadlock", sheet), library.deadlock(sheet)
+    if found.refusal:
+        return refused(begun, sheet, found.refusal, found.place)
+    about = told(library, sheet)
+    ends = {"refusal": 0, "place": 0, "count": len(found.pairs), "deadlock": found.pairs, "misplaced": about.misplaced}
+    if found.pairs:
+        words = f"deadlock: {deadlocked(found.pairs)}"
+    else:
+        words = "no deadlock" if about.misplaced else "no deadlock: nothing is misplaced"
+    cost = cost_in_words(len(about.misplaced), found.pairs)
+    return {**begun, **ends, "floor": about.floor(), "words": words, "cost": cost}
+
+
+def replay(library: Library, sheet: Sheet, lifts: list[Lift]) -> Answer:
+    """Replay: the verdict, the lift or slab it is about, and what lies in the way."""
+    begun, said = {**asked("replay", sheet), "list": all_shown(lifts)}, library.replay(sheet, lifts)
+    if said.refusal:
+        return refused(begun, sheet, said.refusal, said.place)
+    words = verdict_in_words(sheet, lifts, said.verdict, said.place)
+    length = length_in_words(told(library, sheet), len(lifts)) if said.verdict == 0 else ""
+    ends = {"refusal": 0, "verdict": said.verdict, "place": said.place, "count": len(lifts)}
+    return {**begun, **ends, "words": words, "length": length}
+
+
+def check(library: Library, sheet: Sheet) -> Answer:
+    """Questions 2 to 9, and what is misplaced."""
+    begun, said = asked("check", sheet), library.check(sheet)
+    if said.refusal:
+        return refused(begun, sheet, said.refusal, said.place)
+    about = told(library, sheet)
+    piles = [counted(yard.count(0), "pile", "piles") for yard in (sheet.now, sheet.goal)]
+    slabs = counted(len(sheet.now), "slab", "slabs")
+    words = f"accepted: {slabs}, {piles[0]} now and {piles[1]} in the goal"
+    ends = {"refusal": 0, "place": 0, "slabs": len(sheet.now), "misplaced": about.misplaced, "deadlock": about.ring}
+    return {**begun, **ends, "floor": about.floor(), "words": words}
+
+
+# ---- in words
+
+
+def way_down(yard: list[int], slab: int) -> str:
+    """The slabs met going down from a slab, up to the first one that returns."""
+    seen: list[int] = []
+    while slab not in seen and 1 <= slab <= len(yard):
+        seen.append(slab)
+        slab = yard[slab - 1]
+    return listed([*seen, slab])
+
+
+def about_place(method: int, sheet: Sheet, number: int, place: int) -> str:
+    """What a refusal's place means for this sheet; empty where none is named."""
+    n = len(sheet.now)
+    if number == 1:
+        return f"the method is {method}; the methods are {', '.join(f'{k} ({name})' for k, name in METHODS.items())}"
+    if number == 2:
+        return f"the now list has {n:,} entries, {n - MOST:,} too many"
+    if not (4 <= number <= 9 and 1 <= place <= n):
+        return ""
+    yard, where = (sheet.now, "now") if number < 7 else (sheet.goal, "in the goal")
+    support = yard[place - 1]
+    if number in (4, 7):
+        return f"slab {place}, the lowest with a bad entry, rests on {support} {where}, and n is {n}"
+    if number in (5, 8):
+        return f"slab {place} rests on slab {support} {where}, where slab {yard.index(support) + 1} rests too"
+    return f"slab {place} is the lowest that does not; {where} the way down comes round: {way_down(yard, place)}"
+
+
+def refusal_in_words(begun: Answer, sheet: Sheet, number: int, place: int) -> str:
+    """The question that got a no, and what is wrong with the sheet."""
+    question = QUESTIONS[number].words if number in QUESTIONS else "No question of document 01 has this number."
+    about = about_place(begun.get("method", 0), sheet, number, place)
+    return question + (f" No: {about}." if about else " No.")
+
+
+def cost_in_words(misplaced: int, ring: list[Pair]) -> str:
+    """What a deadlock costs every list."""
+    astray = counted(misplaced, "slab is", "slabs are")
+    if ring:
+        return f"{astray} misplaced, so every list that arrives has at least {misplaced + 1} lifts, one more than that"
+    return f"{astray} misplaced, and methods 2 and 3 lift each once: none is shorter"
+
+
+def rows(named: list[tuple[str, str]]) -> list[str]:
+    """Rows of a name and its words, wrapped; tools read `sheet`, `method` and `list` back."""
+    indent = " " * 11
+    wrapped = textwrap.TextWrapper(WIDTH, subsequent_indent=indent, break_long_words=False, break_on_hyphens=False)
+    return [wrapped.fill(f"{name + ':':11}{text}") for name, text in named]
+
+
+def sentence(words: str) -> str:
+    """A sentence, wrapped."""
+    return textwrap.fill(words, WIDTH, subsequent_indent="  ", break_long_words=False, break_on_hyphens=False)
+
+
+def sheet_row(answer: Answer) -> tuple[str, str]:
+    """The row with the sheet, under its name where it has one."""
+    return "sheet", (f"{answer['name']}: " if answer["name"] else "") + answer["sheet"]
+
+
+def plan_in_words(answer: Answer) -> list[str]:
+    """How short the list is, each lift with its reason, and the rows that other tools read."""
+    lifts = answer["lifts"]
+    each = [
+        f"{number}. {lift_in_words(lift['slab'], lift['destination'])}: {lift['reason']}"
+        for number, lift in enumerate(lifts, 1)
+    ]
+    method = answer["method"]
+    counts = ", ".join(f"{count} by method {number}" for number, count in answer["counts"].items())
+    line = all_shown([(lift["slab"], lift["destination"]) for lift in lifts])
+    named = [
+        ("list", line or "no lifts"),
+        sheet_row(answer),
+        ("method", f"{method} ({METHODS[method]})"),
+        ("lifts", counts),
+        ("changed", f"{answer['changed']} (slabs whose now and goal entries differ)"),
+    ]
+    return [sentence(answer["words"]), *map(sentence, each), *rows(named)]
+
+
+def deadlock_in_words(answer: Answer) -> list[str]:
+    """The ring, slab by slab, and what it costs."""
+    ring = answer["deadlock"]
+    each = [f"  {link}" for link in links(ring)] if ring else []
+    pairs = ", ".join(f"{slab} {through}" for slab, through in ring)
+    slabs = listed([slab for slab, _ in ring], " and ")
+    head = f"deadlock: {'slab' if len(ring) == 1 else 'slabs'} {slabs}" if ring else answer["words"]
+    said = [sentence(head), *each, *([sentence(answer["cost"])] if answer["misplaced"] else [])]
+    return [*said, *rows([("pairs", pairs or "none"), sheet_row(answer)])]
+
+
+def replay_in_words(answer: Answer) -> list[str]:
+    """The verdict, and how short a list that arrives is."""
+    named = [("verdict", f"{answer['verdict']}, place {answer['place']}"), ("list", answer["list"] or "no lifts")]
+    said = map(sentence, filter(None, [answer["words"], answer["length"]]))
+    return [*said, *rows([*named, sheet_row(answer)])]
+
+
+def check_in_words(answer: Answer) -> list[str]:
+    """What is accepted, and what is misplaced."""
+    astray = answer["misplaced"]
+    ring = f"; {deadlocked(answer['deadlock'])}" if answer["deadlock"] else ""
+    some = f"{counted(len(astray), 'slab', 'slabs')} misplaced" + (f": {listed(astray)}" if astray else "")
+    return [sentence(answer["words"]), sentence(some + ring), *rows([sheet_row(answer)])]
+
+
+IN_WORDS = {"plan": plan_in_words, "deadlock": deadlock_in_words, "replay": replay_in_words, "check": check_in_words}
+
+
+def in_words(answer: Answer) -> str:
+    """An answer as tools/sheet prints it."""
+    if answer["refusal"]:
+        head = f"refused: {answer['refusal']}, place {answer['place']}"
+        return "\n".join([head, sentence(f"  {answer['words']}"), *rows([sheet_row(answer)])])
+    return "\n".join(IN_WORDS[answer["command"]](answer))

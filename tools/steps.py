@@ -1,0 +1,232 @@
+"""What the library says of a sheet and of a list: how short a list can be, what is misplaced and what waits before and
+after each lift, and why a method makes it.
+
+Nothing is planned here. Misplaced slabs, stalls and loops are read off the library's answers to the yard as it stands;
+what is worked out beside them, the slabs c and d and who is in whose way, is held to the pairs of the deadlock test.
+"""
+
+from array import array
+from collections.abc import Iterator, Sequence
+from typing import NamedTuple
+
+from lines import Fault, Lift, Sheet, counted
+from rules import METHODS, VERDICTS
+from topjeska import Library
+
+Pair = tuple[int, int]
+
+# So many slabs of a loop are named before the rest is only counted.
+NAMED = 12
+
+
+class Wait(NamedTuple):
+    """A misplaced clear slab of a stalled yard: c and d of document 01, which of them its successor is above, and it."""
+
+    slab: int
+    c: int
+    d: int
+    through: int
+    successor: int
+
+
+class Frame(NamedTuple):
+    """A yard, its misplaced slabs, and, where it is stalled, the loop as the deadlock test writes it."""
+
+    yard: list[int]
+    misplaced: set[int]
+    loop: list[Pair]
+
+
+class Step(NamedTuple):
+    """A lift: whether the slab is in position after it, and the loop where the yard before it is stalled."""
+
+    slab: int
+    destination: int
+    home: bool
+    loop: list[Pair]
+
+
+class Told(NamedTuple):
+    """An accepted sheet: its misplaced slabs, the deadlock at the start or none, and each method's number of lifts."""
+
+    sheet: Sheet
+    changed: int
+    misplaced: list[int]
+    ring: list[Pair]
+    counts: dict[int, int]
+
+    def floor(self) -> int:
+        """No list that arrives is shorter: theorems `lower-bound` and `Promise.costs`."""
+        return len(self.misplaced) + bool(self.ring)
+
+
+# ---- the library's answers
+
+
+def told(library: Library, sheet: Sheet) -> Told:
+    """What the library says of an accepted sheet."""
+    plans = {method: library.plan(method, sheet) for method in METHODS}
+    misplaced = sorted(set(plans[2].slabs()))
+    counts = {method: len(plan.slabs()) for method, plan in plans.items()}
+    return Told(sheet, plans[2].changed, misplaced, library.deadlock(sheet).pairs, counts)
+
+
+def frame(library: Library, yard: array, goal: array) -> Frame:
+    """A yard by the library's answers to it.
+
+    Method 2 lifts the misplaced slabs and no others. It begins with a put-down where the yard is stalled and nowhere
+    else, and a slab is put down exactly where it is lifted again. The deadlock test of a stalled yard is its loop.
+    """
+    slabs = library.plan_of(2, yard, goal).slabs()
+    stalled = len(slabs) > 0 and slabs.count(slabs[0]) > 1
+    return Frame(yard.tolist(), set(slabs), library.deadlock_of(yard, goal).pairs if stalled else [])
+
+
+def frames(library: Library, sheet: Sheet, lifts: Sequence[Lift]) -> Iterator[Frame]:
+    """The yard before the first lift, and after each; the lifts must be legal."""
+    yard, goal = array("H", sheet.now), array("H", sheet.goal)
+    yield frame(library, yard, goal)
+    for slab, destination in lifts:
+        yard[slab - 1] = destination
+        yield frame(library, yard, goal)
+
+
+def steps(library: Library, sheet: Sheet, lifts: Sequence[Lift]) -> Iterator[Step]:
+    """Each lift of a legal list."""
+    each = frames(library, sheet, lifts)
+    before = next(each)
+    for (slab, destination), after in zip(lifts, each):
+        yield Step(slab, destination, slab not in after.misplaced, before.loop)
+        before = after
+
+
+# ---- who is in whose way
+
+
+def top(yard: Sequence[int], slab: int) -> int:
+    """The clear slab of the pile that holds a slab."""
+    while slab in yard:
+        slab = yard.index(slab) + 1
+    return slab
+
+
+def wait(stalled: Frame, goal: Sequence[int], slab: int) -> Wait:
+    """What a misplaced clear slab of a stalled yard waits for."""
+    c, d = goal[slab - 1], slab
+    while c in stalled.misplaced:
+        c, d = goal[c - 1], c
+    through = c if c != 0 and c in stalled.yard else d
+    return Wait(slab, c, d, through, top(stalled.yard, through))
+
+
+def waits(stalled: Frame, goal: Sequence[int]) -> list[Wait]:
+    """All that wait in a stalled yard, lowest number first; those on the loop as the deadlock test has them."""
+    found = [wait(stalled, goal, slab) for slab in sorted(stalled.misplaced) if slab not in stalled.yard]
+    answered = {slab: (through, after) for (slab, through), (after, _) in zip(stalled.loop, turned(stalled.loop))}
+    for one in found:
+        if answered.get(one.slab, (one.through, one.successor)) != (one.through, one.successor):
+            raise Fault(f"slab {one.slab}: what waits does not agree with the deadlock test {stalled.loop}")
+    return found
+
+
+def turned(ring: list[Pair]) -> list[Pair]:
+    """A ring from its second slab on: beside each slab stands the next."""
+    return [*ring[1:], *ring[:1]]
+
+
+# ---- in words
+
+
+def listed(slabs: Sequence[int], last: str = ", ") -> str:
+    """Slabs by their numbers, the rest counted where they are many."""
+    if len(slabs) > NAMED:
+        return f"{', '.join(map(str, slabs[:NAMED]))} and {len(slabs) - NAMED} more"
+    return last.join(filter(None, [", ".join(map(str, slabs[:-1])), *map(str, slabs[-1:])]))
+
+
+def links(ring: list[Pair]) -> list[str]:
+    """How each slab of a ring is in the way of the one before it, in words."""
+    if len(ring) == 1:
+        return [f"{ring[0][0]} above {ring[0][1]} now and in the goal"]
+    return [
+        f"{slab} shall stand above {through}, and {after} stands above {through} now"
+        for (slab, through), (after, _) in zip(ring, turned(ring))
+    ]
+
+
+def deadlocked(ring: list[Pair]) -> str:
+    """The slabs of a deadlock, and why they are one."""
+    slabs = [slab for slab, _ in ring]
+    who = f"slab {slabs[0]} is" if len(slabs) == 1 else f"slabs {listed(slabs, ' and ')} are"
+    why = "; ".join(links(ring)) if len(ring) <= NAMED // 3 else f"a ring of {len(ring)} slabs"
+    return f"{who} deadlocked ({why})"
+
+
+def lifts_in_words(number: int) -> str:
+    """A number of lifts."""
+    return counted(number, "lift", "lifts")
+
+
+def floor_in_words(about: Told) -> str:
+    """How many lifts every list that arrives has at least, and why."""
+    astray = counted(len(about.misplaced), "slab is", "slabs are")
+    cost = f", and {deadlocked(about.ring)}" if about.ring else ""
+    return f"at least {lifts_in_words(about.floor())}: {astray} misplaced{cost}"
+
+
+def length_in_words(about: Told, count: int) -> str:
+    """How short a list of so many lifts is, and why."""
+    if not about.misplaced:
+        return "no lifts are needed: nothing is misplaced" + (f"; this list has {count}" if count else "")
+    floor, fewest = about.floor(), min(about.counts.values())
+    if count == floor:
+        return f"{floor_in_words(about)}; this list has {count}, so none is shorter"
+    best = [method for method, number in about.counts.items() if number == fewest < count]
+    known = f"; {methods_in_words(best)} {fewest}" if best else ""
+    if fewest == floor:
+        return f"{floor_in_words(about)}; this list has {count}, {count - floor} more than the shortest{known}"
+    gap = f"at most {count - floor} more than the shortest"
+    return f"{floor_in_words(about)}; this list has {count}, {gap}{known}"
+
+
+def methods_in_words(methods: Sequence[int]) -> str:
+    """Who writes a list."""
+    return f"method {methods[0]} writes" if len(methods) == 1 else f"methods {listed(methods, ' and ')} write"
+
+
+def lift_in_words(slab: int, destination: int) -> str:
+    """A lift."""
+    return f"slab {slab} " + (f"onto {destination}" if destination else "to the ground")
+
+
+def reason(method: int, step: Step) -> str:
+    """Why a method makes a lift: it brings the slab home, or puts it down."""
+    if step.home:
+        return "home"
+    if method == 1:
+        return "put down, the first part of method 1"
+    slabs = [slab for slab, _ in step.loop]
+    return f"stalled, loop {listed(slabs)}" + ("" if step.slab in slabs else f"; {step.slab} waits on it")
+
+
+def verdict_in_words(sheet: Sheet, lifts: Sequence[Lift], verdict: int, place: int) -> str:
+    """A verdict of replay with the lift or the slab it is about, and what lies in the way."""
+    if verdict == 0:
+        return f"arrives: {counted(len(lifts), 'lift is', 'lifts are')} legal, and the end is the goal"
+    yard = list(sheet.now)
+    for slab, destination in lifts if verdict == 5 else lifts[: place - 1]:
+        yard[slab - 1] = destination
+    n = len(yard)
+    if verdict == 5:
+        rests, shall = (f"on {s}" if s else "on the ground" for s in (yard[place - 1], sheet.goal[place - 1]))
+        return f"{VERDICTS[5].words}: slab {place} rests {rests} and shall rest {shall}"
+    slab, destination = lifts[place - 1]
+    details = {
+        1: lambda: f"there is no slab {slab}" if not 1 <= slab <= n else f"there is no slab {destination} to rest on",
+        2: lambda: f"slab {yard.index(slab) + 1} rests on slab {slab}",
+        3: lambda: f"slab {slab} rests on {destination or 'the ground'} already",
+        4: lambda: f"slab {yard.index(destination) + 1} rests on slab {destination}"
+        if destination != slab
+        else f"slab {slab} cannot rest on itself",
+    }
+    return f"lift {place}, {slab}→{destination}: {VERDICTS[verdict].words}: {details[verdict]()}"

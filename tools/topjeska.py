@@ -1,0 +1,211 @@
+"""The proved library in Python: the four operations of include/topjeska.h through a shared object.
+
+The shared object is made from target/staticlib/libtopjeska.a, or from the one in the folder that TOPJESKA_LIB_DIR
+names; where the usual one is missing or older than its sources it is built first. Both are said on standard error.
+"""
+
+import ctypes
+import functools
+import os
+import subprocess
+import sys
+import tempfile
+from array import array
+from collections.abc import Callable, Sequence
+from pathlib import Path
+from typing import Any, NamedTuple
+
+from lines import Fault, Lift, Sheet
+
+ROOT = Path(__file__).resolve().parent.parent
+USUAL = ROOT / "target" / "staticlib"
+MADE = ROOT / "target" / "tools"
+
+# The fields of each operation's answer, in the header's order.
+FIELDS = {
+    "check": ("refusal", "place"),
+    "plan": ("refusal", "place", "count", "changed"),
+    "deadlock": ("refusal", "place", "count"),
+    "replay": ("refusal", "verdict", "place"),
+}
+
+
+class Check(NamedTuple):
+    """Whether two lists are a sheet."""
+
+    refusal: int
+    place: int
+
+
+class Plan(NamedTuple):
+    """A list of lifts, as the numbers that the library wrote, and the count of entries that differ."""
+
+    refusal: int
+    place: int
+    changed: int
+    numbers: array
+
+    def lifts(self) -> list[Lift]:
+        """The lifts as pairs."""
+        return list(zip(self.numbers[::2], self.numbers[1::2]))
+
+    def slabs(self) -> array:
+        """The slab of each lift: all misplaced slabs and no others (theorems `moves-all` and `Economy.only`)."""
+        return self.numbers[::2]
+
+
+class Deadlock(NamedTuple):
+    """The deadlocked slabs, each with the slab through which the next one is in its way; none without a deadlock."""
+
+    refusal: int
+    place: int
+    pairs: list[tuple[int, int]]
+
+
+class Replay(NamedTuple):
+    """The verdict on a list, and its place or the refusal's."""
+
+    refusal: int
+    verdict: int
+    place: int
+
+
+# ---- the shared object
+
+
+def say(words: str) -> None:
+    """A line for who waits."""
+    print(words, file=sys.stderr, flush=True)
+
+
+def done(command: Sequence[str], what: str) -> None:
+    """Runs a command that builds something; its output is shown where it fails."""
+    try:
+        ended = subprocess.run(command, cwd=ROOT, capture_output=True, text=True, check=False)
+    except OSError as error:
+        raise Fault(f"{what} is not built: {error}") from error
+    if ended.returncode != 0:
+        lines = (ended.stdout + ended.stderr).strip().splitlines()[-12:]
+        raise Fault("\n  ".join([f"{what} is not built: {command[0]} ends with {ended.returncode}", *lines]))
+
+
+def stale(archive: Path) -> bool:
+    """Whether the usual static library is missing or older than a source."""
+    if not archive.is_file():
+        return True
+    age = archive.stat().st_mtime
+    return any(source.stat().st_mtime > age for source in [ROOT / "crates.txt", *ROOT.glob("crates/*/src/**/*.rt")])
+
+
+def shared_object(archive: Path, folder: Path) -> Path:
+    """A shared object with everything of a static library."""
+    folder.mkdir(parents=True, exist_ok=True)
+    made = folder / f"{archive.stem}.so"
+    handle, name = tempfile.mkstemp(".so", dir=folder)
+    os.close(handle)
+    whole = ["-Wl,--whole-archive", str(archive), "-Wl,--no-whole-archive"]
+    try:
+        done(["cc", "-shared", "-o", name, *whole], "the shared object")
+        os.replace(name, made)
+    finally:
+        Path(name).unlink(missing_ok=True)
+    return made
+
+
+def usual() -> Path:
+    """The shared object of the usual library, built where it must be, with a line that says so."""
+    archive = USUAL / "libtopjeska.a"
+    if stale(archive):
+        say("building the library: rt staticlib topjeska (it proves what it builds; some minutes the first time)")
+        done(["rt", "staticlib", "topjeska"], "the library")
+        archive.touch()
+    made = MADE / "libtopjeska.so"
+    if not made.is_file() or made.stat().st_mtime < archive.stat().st_mtime:
+        say("making the shared object target/tools/libtopjeska.so from target/staticlib/libtopjeska.a")
+        shared_object(archive, MADE)
+    return made
+
+
+# ---- the operations
+
+
+def functions(path: Path, prefix: str) -> dict[str, Callable[..., Any]]:
+    """The operations of a shared object whose names begin with a prefix, with their types."""
+    loaded = ctypes.CDLL(str(path))
+    lent = [ctypes.c_void_p, ctypes.c_size_t]
+    named = {}
+    for operation, fields in FIELDS.items():
+        function = getattr(loaded, f"{prefix}_{operation}")
+        layout = [(field, ctypes.c_uint64) for field in fields]
+        function.restype = type(operation, (ctypes.Structure,), {"_fields_": layout})
+        first = [ctypes.c_uint16] if operation == "plan" else []
+        function.argtypes = first + lent * (2 if operation == "check" else 3)
+        named[operation] = function
+    return named
+
+
+def lent(numbers: array) -> tuple[int, int]:
+    """A list as the library takes it: where it lies, and how long it is."""
+    return numbers.buffer_info()
+
+
+class Library:
+    """The four operations."""
+
+    def __init__(self, path: Path) -> None:
+        """Loads a shared object."""
+        try:
+            self.called = functions(path, "topjeska")
+        except (OSError, AttributeError) as error:
+            raise Fault(f"the library {path} cannot be loaded: {error}") from error
+
+    def check(self, sheet: Sheet) -> Check:
+        """Puts questions 2 to 9."""
+        now, goal = array("H", sheet.now), array("H", sheet.goal)
+        answer = self.called["check"](*lent(now), *lent(goal))
+        return Check(answer.refusal, answer.place)
+
+    def plan(self, method: int, sheet: Sheet) -> Plan:
+        """The list of a method."""
+        now, goal = array("H", sheet.now), array("H", sheet.goal)
+        return self.plan_of(method, now, goal)
+
+    def plan_of(self, method: int, now: array, goal: array) -> Plan:
+        """The list of a method for lists that are lent as they are."""
+        space = array("H", bytes(8 * len(now)))
+        answer = self.called["plan"](method, *lent(now), *lent(goal), *lent(space))
+        return Plan(answer.refusal, answer.place, answer.changed, space[: 2 * answer.count])
+
+    def deadlock(self, sheet: Sheet) -> Deadlock:
+        """The deadlock test."""
+        return self.deadlock_of(array("H", sheet.now), array("H", sheet.goal))
+
+    def deadlock_of(self, now: array, goal: array) -> Deadlock:
+        """The deadlock test of lists that are lent as they are."""
+        space = array("H", bytes(4 * len(now)))
+        answer = self.called["deadlock"](*lent(now), *lent(goal), *lent(space))
+        numbers = space[: 2 * answer.count]
+        return Deadlock(answer.refusal, answer.place, list(zip(numbers[::2], numbers[1::2])))
+
+    def replay(self, sheet: Sheet, lifts: Sequence[Lift]) -> Replay:
+        """The verdict on a list."""
+        now, goal = array("H", sheet.now), array("H", sheet.goal)
+        numbers = array("H", [number for lift in lifts for number in lift])
+        answer = self.called["replay"](*lent(now), *lent(goal), *lent(numbers))
+        return Replay(answer.refusal, answer.verdict, answer.place)
+
+
+@functools.cache
+def library() -> Library:
+    """The library, loaded once."""
+    named = os.environ.get("TOPJESKA_LIB_DIR")
+    try:
+        if not named:
+            return Library(usual())
+        archive = Path(named).resolve() / "libtopjeska.a"
+        if not archive.is_file():
+            raise Fault(f"there is no {archive}; TOPJESKA_LIB_DIR names its folder: correct it, or unset it")
+        with tempfile.TemporaryDirectory() as folder:
+            return Library(shared_object(archive, Path(folder)))
+    except OSError as error:
+        raise Fault(f"the library cannot be had: {error}") from error
