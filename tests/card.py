@@ -14,16 +14,13 @@ from html.parser import HTMLParser
 from pathlib import Path
 from types import ModuleType
 
-from compiled import ROOT
+from tested import ROOT, Ended, Test, counted, unlike
 
 TOOLS = ROOT / "tools"
 CARD = ROOT / "docs" / "fault-card.html"
 sys.path.append(str(TOOLS))
 import rules  # noqa: E402
 
-# A test: what it holds, and what is wrong; empty when nothing is.
-Test = tuple[str, str]
-Ended = subprocess.CompletedProcess[str]
 Row = list[str]
 
 
@@ -74,11 +71,6 @@ class Tables(HTMLParser):
 def rows(table: list[Row]) -> list[Row]:
     """The rows of a table below its head, each cell in one line."""
     return [[" ".join(cell.split()) for cell in row] for row in table[1:]]
-
-
-def unlike(found: object, right: object) -> str:
-    """How what was found differs from what is right."""
-    return "" if found == right else f"{found!r} where {right!r} is right"
 
 
 def written(root: Path = ROOT) -> Ended:
@@ -133,13 +125,7 @@ def main() -> int:
     page = written().stdout
     stored = CARD.read_text(encoding="utf-8") if CARD.is_file() else ""
     same = "" if page and page == stored else "is not what tools/card writes: tools/card > docs/fault-card.html"
-    done: list[Test] = [("docs/fault-card.html", same), *contents(page), *runs(page)]
-    for what, wrong in done:
-        if wrong:
-            print(f"failed: {what}: {wrong}")
-    failed = sum(bool(wrong) for _, wrong in done)
-    print(f"{len(done) - failed} passed, {failed} failed")
-    return 1 if failed else 0
+    return counted([("docs/fault-card.html", same), *contents(page), *runs(page)])
 
 
 if __name__ == "__main__":

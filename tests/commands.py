@@ -23,15 +23,11 @@ import sheets
 from case import planning, read, testing
 from reading import METHODS, MOST, TOP, Pair, Yard
 from records import EXAMPLE
+from tested import ROOT, Ended, Test, lacking, list_line, misended, sheet_line, sheet_of, unlike
 
-ROOT = Path(__file__).resolve().parent.parent
 LIBRARY = ROOT / "target" / "staticlib"
 RANDOM_SHEETS = 300
 SEARCHED = 6
-
-# A test: what it holds, and what is wrong; empty when nothing is.
-Test = tuple[str, str]
-Ended = subprocess.CompletedProcess[str]
 
 
 def run(command: Sequence[str], library: Path | None = None, root: Path = ROOT, given: str = "") -> Ended:
@@ -39,40 +35,6 @@ def run(command: Sequence[str], library: Path | None = None, root: Path = ROOT, 
     around = {**os.environ, **({"TOPJESKA_LIB_DIR": str(library)} if library else {})}
     words = [sys.executable, str(root / "tools" / command[0]), *command[1:]]
     return subprocess.run(words, input=given, capture_output=True, text=True, encoding="utf-8", env=around, check=False)
-
-
-def lacking(text: str, parts: Sequence[str]) -> str:
-    """The parts that a text does not have."""
-    missing = [part for part in parts if part not in text]
-    return f"{missing} not in {text!r}" if missing else ""
-
-
-def misended(ended: Ended, status: int, parts: Sequence[str]) -> str:
-    """What is wrong with how a tool ended, and with what it printed."""
-    if ended.returncode != status:
-        return f"ends with {ended.returncode}: {ended.stderr}"
-    return lacking(ended.stdout + ended.stderr, parts)
-
-
-def unlike(found: object, right: object) -> str:
-    """How what was found differs from what is right."""
-    return "" if found == right else f"{found!r} where {right!r} is right"
-
-
-def sheet_line(now: Yard, goal: Yard) -> str:
-    """A sheet as it is typed."""
-    return f"{' '.join(map(str, now))} / {' '.join(map(str, goal))}".strip()
-
-
-def sheet_of(line: str) -> tuple[list[int], list[int]]:
-    """The sheet of a line."""
-    now, goal = ([int(entry) for entry in part.split()] for part in line.split("/"))
-    return now, goal
-
-
-def list_line(pairs: Sequence[Pair]) -> str:
-    """A list of lifts as it is typed."""
-    return ", ".join(f"{slab}→{destination}" for slab, destination in pairs)
 
 
 # ---- tools/records.py
@@ -117,7 +79,7 @@ REFUSED = [
     (2, "1 / 0", (6, 1), ["Does every slab come down to the ground now?", "slab 1"]),
     (2, "0 0 / 2 1", (9, 1), ["Does every slab come down to the ground in the goal?", "1, 2, 1"]),
     (4, "2 0 / 0 1", (1, 0), ["Is the method 1, 2 or 3?", "the method is 4"]),
-    (1, sheet_line([0] * (MOST + 1), [0] * (MOST + 1)), (2, 0), ["at most 4,000 entries?", "4,001 entries, 1 too many"]),
+    (1, sheet_line([0] * (MOST + 1), [0] * (MOST + 1)), (2, 0), ["at most 4,000 entries?", "4,001 entries, 1 too"]),
 ]
 
 # Lines that are no sheets, and what the message must say.
@@ -204,7 +166,8 @@ def right_length(now: Yard, goal: Yard, count: int) -> str:
     more = count - len(astray) - reading.deadlocked(now, goal)
     counts = [len(read(planning(method, now, goal)).pairs) for method in METHODS]
     best = [method for method in METHODS if counts[method - 1] == min(counts) < count]
-    end = f"{'' if count - min(counts) == more else 'at most '}{more} more than the shortest" if more else "so none is shorter"
+    about = "" if count - min(counts) == more else "at most "
+    end = f"{about}{more} more than the shortest" if more else "so none is shorter"
     known = f"; {writers(best)} {min(counts)}" if best else ""
     return f"{right_floor(now, goal)}; this list has {count}, {end}{known}"
 
@@ -281,7 +244,7 @@ def resting(support: int) -> str:
 def in_the_way(yard: Yard, slab: int, destination: int, verdict: int) -> str:
     """What is in the way of a bad lift."""
     if verdict == 1:
-        return f"there is no slab {destination} to rest on" if slab in reading.slabs(yard) else f"there is no slab {slab}"
+        return f"there is no slab {f'{destination} to rest on' if slab in reading.slabs(yard) else slab}"
     if verdict == 2:
         return f"slab {list(yard).index(slab) + 1} rests on slab {slab}"
     if verdict == 3:
@@ -515,7 +478,8 @@ def sheet_sources() -> Iterator[Test]:
         printed = run(["sheet", "plan", "3", named, sheet_line(*long), *form]).stdout
         ended = run(["sheet", "replay", "-"], given=printed)
         parts = [list_line(read(planning(3, *sheet)).pairs) for sheet in ((now, goal), long)]
-        wrong = misended(ended, 0, []) or lacking(unwrapped(ended.stdout), [*parts, "arrives: 3 lifts", "arrives: 31 lifts"])
+        parts += ["arrives: 3 lifts", "arrives: 31 lifts"]
+        wrong = misended(ended, 0) or lacking(unwrapped(ended.stdout), parts)
         yield f"tools/sheet replay, what plan prints {form}", wrong
 
 
@@ -538,7 +502,7 @@ def alone() -> Iterator[Test]:
     with tempfile.TemporaryDirectory() as folder:
         root = Path(folder)
         shutil.copytree(ROOT / "tools", root / "tools", ignore=shutil.ignore_patterns("__pycache__"))
-        for command in (["sheet", "plan", "2", example], ["sheet", "records", "2", example], ["draw", example, "1→0, 2→1"]):
+        for command in (["sheet", "plan", "2", example], ["sheet", "records", "2", example], ["draw", example], ["card"]):
             yield f"tools/{command[0]} alone", misended(run(command, LIBRARY, root), 0, [])
         ended = run(["records.py", "pack"], root=root, given=WORDS[0])
         yield "tools/records.py alone", misended(ended, 0, [EXAMPLE[0].hex().upper()])

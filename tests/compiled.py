@@ -7,7 +7,8 @@ from collections.abc import Sequence
 from pathlib import Path
 from typing import NamedTuple
 
-ROOT = Path(__file__).resolve().parent.parent
+from tested import ROOT
+
 TARGET = ROOT / "target" / "compiled"
 LIBRARY = ROOT / "target" / "staticlib" / "libtopjeska.a"
 INCLUDE = ROOT / "include"

@@ -22,8 +22,8 @@ import pictures as of_draw
 import reading
 import sheets
 from case import flat, planning, read, testing
-from commands import ROOT, Test, list_line, sheet_line, sheet_of
 from reading import METHODS, Pair, Yard
+from tested import ROOT, Test, counted, list_line, sheet_line, sheet_of, unlike
 
 WHY = ROOT / "docs" / "WHY.md"
 DEMANDS = ROOT / "docs" / "DEMANDS.md"
@@ -388,14 +388,14 @@ def five_piles() -> Iterator[Test]:
     now, goal = rows()["five"].sheet()
     stated = [row for row in table(text_of(WHY), "The three methods") if "→" in row[0]]
     pairs = read(planning(2, now, goal)).pairs
-    yield "WHY.md, the five piles by method 3", commands.unlike(read(planning(3, now, goal)).pairs, pairs)
+    yield "WHY.md, the five piles by method 3", unlike(read(planning(3, now, goal)).pairs, pairs)
     right, loops = [], []
     for number, (slab, place) in enumerate(pairs, 1):
         home = reading.is_constructive(now, goal, slab)
         right.append([f"{number}. {slab}→{place}", "home" if home else "put down"])
         loops.append("" if home else f"the loop is {', '.join(map(str, reading.loop(now, goal)))}")
         now = reading.lifted(now, slab, place)
-    yield "WHY.md, the lifts of the five piles", commands.unlike([row[:2] for row in stated], right)
+    yield "WHY.md, the lifts of the five piles", unlike([row[:2] for row in stated], right)
     missing = [loop for loop, row in zip(loops, stated) if loop not in row[2]]
     yield "WHY.md, the loop of the five piles", f"{missing} is not said" if missing else ""
 
@@ -414,7 +414,7 @@ def classroom() -> Iterator[Test]:
     found = len(read(planning(1, now, goal)).pairs), reading.shortest(now, goal), len(reading.misplaced(now, goal))
     numbers = re.search(r"`length p` = (\d+), `length r` = (\d+), .* = \d+, `misplacedCount s g` = (\d+)", text)
     told = tuple(map(int, numbers.groups())) if numbers else ()
-    yield "CLASSROOM.md, numbers", commands.unlike(told, found)
+    yield "CLASSROOM.md, numbers", unlike(told, found)
     yield "CLASSROOM.md, list", "" if reading.replay(now, goal, [1, 3]) == (0, 0, 0) else "1→3 does not arrive"
 
 
@@ -428,13 +428,7 @@ def main() -> int:
                 (PICTURES / f"{name}.svg").write_text(made, encoding="utf-8")
     of_tools = [commands.tests({name: row.typed() for name, row in rows().items()}), of_draw.tests(), page_data.tests()]
     of_why = [references(), page_sheets(), waiting(), five_piles(), pictures()]
-    done = list(itertools.chain(proved(), *of_why, classroom(), demands(), *of_tools))
-    for what, wrong in done:
-        if wrong:
-            print(f"{what}: {wrong}")
-    failed = sum(bool(wrong) for _, wrong in done)
-    print(f"{len(done) - failed} passed, {failed} failed")
-    return 1 if failed else 0
+    return counted(itertools.chain(proved(), *of_why, classroom(), demands(), *of_tools))
 
 
 if __name__ == "__main__":

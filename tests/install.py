@@ -15,17 +15,14 @@ import tempfile
 from collections.abc import Iterator
 from pathlib import Path
 
-from compiled import INCLUDE, LIBRARY, ROOT
+from compiled import INCLUDE, LIBRARY
+from tested import ROOT, Ended, Test, counted, misended, unlike
 
 INSTALLED = ("include/topjeska.h", "lib/libtopjeska.a", "lib/pkgconfig/topjeska.pc")
 # What the script needs of the path.
 COMMANDS = ("bash", "cat", "chmod", "dirname", "mkdir", "sed")
 LIBRARY_DIR = os.environ.get("TOPJESKA_LIB_DIR")
 ARCHIVE = Path(LIBRARY_DIR) / LIBRARY.name if LIBRARY_DIR else LIBRARY
-
-# A test: what it holds, and what is wrong; empty when nothing is.
-Test = tuple[str, str]
-Ended = subprocess.CompletedProcess[str]
 
 
 def run(words: list[str], cwd: Path = ROOT, root: Path = ROOT, **around: str) -> Ended:
@@ -39,18 +36,6 @@ def files(folder: Path) -> list[str]:
     """The files beneath a folder, and the folders without one."""
     found = (path for path in folder.rglob("*") if path.is_file() or not any(path.iterdir()))
     return sorted(str(path.relative_to(folder)) for path in found)
-
-
-def misended(ended: Ended, status: int, *parts: str) -> str:
-    """What is wrong with how the script ended, and with what it said."""
-    said = ended.stdout + ended.stderr
-    missing = [part for part in parts if part not in said]
-    return "" if ended.returncode == status and not missing else f"ends with {ended.returncode}, said {said!r}"
-
-
-def unlike(found: object, right: object) -> str:
-    """How what was found differs from what is right."""
-    return "" if found == right else f"{found!r} where {right!r} is right"
 
 
 # ---- the flags of the pkg-config file
@@ -98,7 +83,7 @@ def round_trip(folder: Path) -> Iterator[Test]:
     prefix = folder / "a prefix"
     there = [prefix / name for name in INSTALLED]
     words = ["--prefix", str(prefix)]
-    yield "install", misended(run(words), 0, *(f"wrote {path}\n" for path in there))
+    yield "install", misended(run(words), 0, [f"wrote {path}\n" for path in there])
     yield "what is installed", unlike(files(prefix), list(INSTALLED))
     for path, source in ((there[0], INCLUDE / "topjeska.h"), (there[1], ARCHIVE)):
         same = path.read_bytes() == source.read_bytes()
@@ -112,9 +97,9 @@ def round_trip(folder: Path) -> Iterator[Test]:
         print("there is no pkg-config here")
     yield "the example by the file", misbuilt(written(there[2]), folder)
     yield "install again", misended(run([f"--prefix={prefix}/"]), 0) or unlike(files(prefix), list(INSTALLED))
-    yield "uninstall", misended(run(["--uninstall", *words]), 0, *(f"removed {path}\n" for path in there))
+    yield "uninstall", misended(run(["--uninstall", *words]), 0, [f"removed {path}\n" for path in there])
     yield "what is left", unlike(files(folder), [])
-    yield "uninstall again", misended(run([*words, "--uninstall"]), 1, "nothing of topjeska")
+    yield "uninstall again", misended(run([*words, "--uninstall"]), 1, ["nothing of topjeska"])
 
 
 def other_places(folder: Path) -> Iterator[Test]:
@@ -150,9 +135,9 @@ def refused(folder: Path) -> Iterator[Test]:
         (["--prefix", f"{folder}/file"], 1, "is not written"),
     ]
     for words, status, said in cases:
-        yield f"install {' '.join(words[:1])} {said}", misended(run(words), status, said)
+        yield f"install {' '.join(words[:1])} {said}", misended(run(words), status, [said])
     ended = run(["--prefix", str(folder / "x")], TOPJESKA_LIB_DIR=str(folder))
-    yield "install of a library that is not there", misended(ended, 1, "is missing")
+    yield "install of a library that is not there", misended(ended, 1, ["is missing"])
     (folder / "file").unlink()
     yield "what refusals leave", unlike(files(folder), before)
 
@@ -167,11 +152,11 @@ def building(folder: Path) -> Iterator[Test]:
         (commands / name).symlink_to(shutil.which(name) or name)
     words = ["--prefix", str(folder / "built")]
     around = {"PATH": str(commands), "TOPJESKA_LIB_DIR": ""}
-    yield "install without rt", misended(run(words, root=root, **around), 1, "no rt on the path")
+    yield "install without rt", misended(run(words, root=root, **around), 1, ["no rt on the path"])
     rt = commands / "rt"
     rt.write_text("#!/bin/sh\nexit 3\n")
     rt.chmod(0o755)
-    yield "install where rt fails", misended(run(words, root=root, **around), 1, "is not built")
+    yield "install where rt fails", misended(run(words, root=root, **around), 1, ["is not built"])
     yield "what they leave", "" if not (folder / "built").exists() else "something was written"
     copied = f"mkdir -p target/staticlib && cat {shlex.quote(str(ARCHIVE.resolve()))} >target/staticlib/{LIBRARY.name}"
     rt.write_text(f'#!/bin/sh\n[ "$*" = "staticlib topjeska" ] && {copied}\n')
@@ -186,12 +171,7 @@ def main() -> int:
     for group in (round_trip, other_places, refused, building):
         with tempfile.TemporaryDirectory() as folder:
             done += group(Path(folder).resolve())
-    for what, wrong in done:
-        if wrong:
-            print(f"failed: {what}: {wrong}")
-    failed = sum(bool(wrong) for _, wrong in done)
-    print(f"{len(done) - failed} passed, {failed} failed")
-    return 1 if failed or not done else 0
+    return counted(done)
 
 
 if __name__ == "__main__":

@@ -14,21 +14,19 @@ import signal
 import subprocess
 import sys
 import tempfile
-from collections.abc import Iterator, Sequence
+from collections.abc import Iterator
 from pathlib import Path
 from typing import Any, NamedTuple
 
 import reading
 import sheets
 from reading import METHODS, Pair, Yard
+from tested import ROOT, Test, counted, sheet_line, sheet_of, unlike
 
-ROOT = Path(__file__).resolve().parent.parent
 TOOL = ROOT / "tools" / "page"
 RANDOM_SHEETS = 40
 PATIENCE = 20
 
-# A test: what it holds, and what is wrong; empty when nothing is.
-Test = tuple[str, str]
 Data = dict[str, Any]
 
 EMBEDDED = re.compile(r'<script type="application/json" id="data">(.*?)</script>', re.S)
@@ -136,23 +134,7 @@ def misreasoned(reason: str, method: int, lift: Pair, before: Shot, after: Shot)
     return "" if (slab in loop) == (rest == "") else f"{reason!r} where the loop is {loop} and {slab} is put down"
 
 
-def unlike(found: object, right: object) -> str:
-    """How what was found differs from what is right."""
-    return "" if found == right else f"{found!r} where {right!r} is right"
-
-
 # ---- sheets
-
-
-def line_of(now: Yard, goal: Yard) -> str:
-    """A sheet as it is typed."""
-    return f"{' '.join(map(str, now))} / {' '.join(map(str, goal))}"
-
-
-def sheet_of(line: str) -> sheets.Sheet:
-    """The sheet of a line, its name left out."""
-    now, goal = ([int(entry) for entry in part.split()] for part in line.rpartition(":")[2].split("/"))
-    return now, goal
 
 
 def thirty() -> dict[str, sheets.Sheet]:
@@ -219,12 +201,13 @@ def page_sheets() -> Iterator[Test]:
     some = some_sheets()
     with tempfile.TemporaryDirectory() as folder:
         path = Path(folder) / "sheets"
-        path.write_text("".join(f"sheet {k}: {line_of(*one)} # {k}\n" for k, one in enumerate(some)), encoding="utf-8")
+        lines = [f"sheet {k}: {sheet_line(*one)} # {k}\n" for k, one in enumerate(some)]
+        path.write_text("".join(lines), encoding="utf-8")
         ended = run(str(path))
     found = data_of(ended.stdout)["sheets"]
     yield "tools/page, a file of sheets", unlike((ended.returncode, len(found)), (0, len(some)))
     for number, (told, one) in enumerate(zip(found, some)):
-        yield f"tools/page, {line_of(*one)}", unlike(told["name"], f"sheet {number}") or misshown(told, *one)
+        yield f"tools/page, {sheet_line(*one)}", unlike(told["name"], f"sheet {number}") or misshown(told, *one)
 
 
 def alone() -> Iterator[Test]:
@@ -257,7 +240,7 @@ def statuses() -> Iterator[Test]:
     for words, part in UNUSABLE:
         ended = run(*words)
         yield f"tools/page, {words}", unlike((ended.returncode, ended.stdout, part in ended.stderr), (2, "", True))
-    many, more = (line_of([0] * slabs, [0] * slabs) for slabs in (300, 301))
+    many, more = (sheet_line([0] * slabs, [0] * slabs) for slabs in (300, 301))
     yield "tools/page, 300 slabs", unlike((run(many).returncode, run("-", given=many).returncode), (0, 0))
     ended = run("-", given=more)
     told = "at most 300" in ended.stderr
@@ -331,7 +314,7 @@ def answers(server: Server) -> Iterator[Test]:
         yield f"--serve, {bad}, as tools/sheet says it", unlike(asked.stderr.rstrip("\n"), f"tools/sheet: {right}")
     told = server.typed("1 / 0").get("sheet", {})
     yield "--serve, a refused sheet", unlike((told.get("refusal"), told.get("place"), "answers" in told), (6, 1, False))
-    many = server.typed(line_of([0] * 4000, [0] * 4000)).get("fault", "")
+    many = server.typed(sheet_line([0] * 4000, [0] * 4000)).get("fault", "")
     yield "--serve, 4,000 slabs", "" if "4000 slabs" in many and "300" in many else f"the answer is {many!r}"
     yield "--serve, no file is read", unlike(list(server.typed("README.md")), ["fault"])
 
@@ -385,15 +368,5 @@ def tests() -> Iterator[Test]:
     return itertools.chain(page_sheets(), alone(), statuses(), serving())
 
 
-def counted(done: Sequence[Test]) -> int:
-    """Prints what is wrong and the count of tests; the exit status."""
-    for what, wrong in done:
-        if wrong:
-            print(f"{what}: {wrong}")
-    failed = sum(bool(wrong) for _, wrong in done)
-    print(f"{len(done) - failed} passed, {failed} failed")
-    return 1 if failed or not done else 0
-
-
 if __name__ == "__main__":
-    sys.exit(counted(list(tests())))
+    sys.exit(counted(tests()))

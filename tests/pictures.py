@@ -22,8 +22,9 @@ from typing import NamedTuple
 import reading
 import sheets
 from case import planning, read, testing
-from commands import ROOT, Ended, Test, lacking, list_line, misended, run, sheet_line, unlike
+from commands import run
 from reading import METHODS, MOST, Pair, Yard
+from tested import ROOT, Ended, Test, counted, lacking, list_line, misended, sheet_line, unlike
 
 DRAWN = 15
 NAMES = {1: "US", 2: "GN1", 3: "GN2"}
@@ -681,16 +682,5 @@ def tests() -> Iterator[Test]:
             yield from part
 
 
-def main() -> int:
-    """Runs all tests."""
-    done = list(tests())
-    for what, wrong in done:
-        if wrong:
-            print(f"{what}: {wrong}")
-    failed = sum(bool(wrong) for _, wrong in done)
-    print(f"{len(done) - failed} passed, {failed} failed")
-    return 1 if failed else 0
-
-
 if __name__ == "__main__":
-    sys.exit(main())
+    sys.exit(counted(tests()))
