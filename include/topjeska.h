@@ -47,10 +47,11 @@ extern "C" {
 
 /* ---- methods of planning */
 
-/* US: puts down all that is misplaced, then makes constructive lifts. */
+/* US: puts down the misplaced clear slabs off the ground, then makes constructive lifts. */
 #define TOPJESKA_METHOD_US 1u
 
-/* GN1: makes constructive lifts, and at a stall puts down the lowest misplaced clear slab. */
+/* GN1: makes constructive lifts, and at a stall puts down the lowest misplaced clear slab off the
+ * ground. */
 #define TOPJESKA_METHOD_GN1 2u
 
 /* GN2: as GN1, but at a stall puts down the lowest slab on the loop. */

@@ -15,26 +15,32 @@ import sys
 import tempfile
 from collections.abc import Iterator, Sequence
 from pathlib import Path
-from typing import Any
 
 import reading
 import records
 import sheets
-from case import planning, read, testing
+from case import planning, read
 from reading import METHODS, MOST, TOP, Pair, Yard
 from records import EXAMPLE
+from said import check_object, deadlock_object, plan_object, replay_object
+from said import right_check, right_deadlock, right_plan, right_replay, ring_words, untrue
 from tested import ROOT, Ended, Test, lacking, list_line, misended, sheet_line, sheet_of, unlike
 
 LIBRARY = ROOT / "target" / "staticlib"
+
+# Stalled yards with more than one loop: a slab in its own way, one that waits on another loop, and two on one.
+SEVERAL = [sheet_of(line) for line in ("5 1 6 0 4 0 / 4 6 2 0 1 0", "0 4 5 0 0 0 0 9 0 11 0 / 8 5 4 0 0 0 0 11 0 9 0")]
 RANDOM_SHEETS = 300
 SEARCHED = 6
 
 
-def run(command: Sequence[str], library: Path | None = None, root: Path = ROOT, given: str = "") -> Ended:
-    """Runs a tool, with the library of a folder in the place of the usual one."""
-    around = {**os.environ, **({"TOPJESKA_LIB_DIR": str(library)} if library else {})}
+def run(
+    command: Sequence[str], library: Path | None = None, root: Path = ROOT, given: str = "", **around: str
+) -> Ended:
+    """Runs a tool, with the library of a folder in the place of the usual one, and variables around it."""
+    env = {**os.environ, **({"TOPJESKA_LIB_DIR": str(library)} if library else {}), **around}
     words = [sys.executable, str(root / "tools" / command[0]), *command[1:]]
-    return subprocess.run(words, input=given, capture_output=True, text=True, encoding="utf-8", env=around, check=False)
+    return subprocess.run(words, input=given, capture_output=True, text=True, encoding="utf-8", env=env, check=False)
 
 
 # ---- tools/records.py
@@ -65,7 +71,7 @@ def records_tool() -> Iterator[Test]:
         yield f"tools/records.py, {command} {line}", misended(run(["records.py", command], given=line), 2, parts)
 
 
-# ---- tools/sheet: what it should say, by the reading
+# ---- tools/sheet
 
 # Sheets that document 01 refuses: method, line, number and place, and what the words must have.
 REFUSED = [
@@ -77,6 +83,8 @@ REFUSED = [
         ["Does each slab carry at most one slab now?", "slab 3 rests on slab 1 now", "slab 2"],
     ),
     (2, "1 / 0", (6, 1), ["Does every slab come down to the ground now?", "slab 1"]),
+    (2, "0 0 0 / 2 1 5", (7, 3), ["Is every goal entry at most n?", "slab 3", "rests on 5 in the goal"]),
+    (2, "0 0 0 / 0 1 1", (8, 3), ["at most one slab in the goal?", "slab 3 rests on slab 1 in the goal", "slab 2"]),
     (2, "0 0 / 2 1", (9, 1), ["Does every slab come down to the ground in the goal?", "1, 2, 1"]),
     (4, "2 0 / 0 1", (1, 0), ["Is the method 1, 2 or 3?", "the method is 4"]),
     (1, sheet_line([0] * (MOST + 1), [0] * (MOST + 1)), (2, 0), ["at most 4,000 entries?", "4,001 entries, 1 too"]),
@@ -92,191 +100,10 @@ UNREADABLE = [
     ("2 0 / 0 1 / 0", ["column 11", "second '/'"]),
     ("2 0 / 0", ["column 8", "slab 2 has no goal entry"]),
     ("2 0 / 0 1 0", ["column 11", "slab 3 has no now entry"]),
-    ("no-such-file", ["no '/'", "there is no file no-such-file"]),
+    ("no-such-file", ["no '/'", "no-such-file is no file"]),
+    ("tests", ["no '/'", "tests is a folder"]),
+    ("a\x1b[1mb: 0 / 0", ["column 2", "the name has a character that cannot be shown"]),
 ]
-
-
-def from_lowest(ring: Sequence[int]) -> list[int]:
-    """A loop from its lowest number onward."""
-    at = ring.index(min(ring))
-    return [*ring[at:], *ring[:at]]
-
-
-def reasons(method: int, now: Yard, goal: Yard, pairs: Sequence[Pair]) -> list[str]:
-    """The line of each lift of a method's list: home where it is constructive, else why it is put down."""
-    said, yard = [], now
-    for number, (slab, destination) in enumerate(pairs, 1):
-        if reading.is_constructive(yard, goal, slab) and destination == goal[slab - 1]:
-            why = "home"
-        elif method == 1:
-            why = "put down, the first part of method 1"
-        else:
-            loop = from_lowest(reading.loop(yard, goal))
-            why = f"stalled, loop {', '.join(map(str, loop))}" + ("" if slab in loop else f"; {slab} waits on it")
-        said.append(f"{number}. slab {slab} {f'onto {destination}' if destination else 'to the ground'}: {why}")
-        yard = reading.lifted(yard, slab, destination)
-    return said
-
-
-def ring_words(now: Yard, goal: Yard) -> list[str]:
-    """The links of the deadlock at the start, in words; none without one."""
-    pairs = read(testing(now, goal)).pairs
-    if len(pairs) == 1:
-        return [f"{pairs[0][0]} above {pairs[0][1]} now and in the goal"]
-    after = [*pairs[1:], *pairs[:1]]
-    return [
-        f"{slab} shall stand above {d}, and {other} stands above {d} now" for (slab, d), (other, _) in zip(pairs, after)
-    ]
-
-
-def counted(number: int, one: str, many: str) -> str:
-    """A number with its noun."""
-    return f"{number} {one if number == 1 else many}"
-
-
-def named_slabs(slabs: Sequence[int], are: bool) -> str:
-    """Slabs with their verb, or without it."""
-    if len(slabs) == 1:
-        return f"slab {slabs[0]}" + (" is" if are else "")
-    return f"slabs {', '.join(map(str, slabs[:-1]))} and {slabs[-1]}" + (" are" if are else "")
-
-
-def right_floor(now: Yard, goal: Yard) -> str:
-    """The sentence on what every list needs."""
-    astray, links = len(reading.misplaced(now, goal)), ring_words(now, goal)
-    floor = astray + reading.deadlocked(now, goal)
-    text = f"at least {counted(floor, 'lift', 'lifts')}: {counted(astray, 'slab is', 'slabs are')} misplaced"
-    if links:
-        slabs = [slab for slab, _ in read(testing(now, goal)).pairs]
-        why = "; ".join(links) if len(links) <= 4 else f"a ring of {len(links)} slabs"
-        text += f", and {named_slabs(slabs, True)} deadlocked ({why})"
-    return text
-
-
-def writers(methods: Sequence[int]) -> str:
-    """Methods that write a list."""
-    return f"method {methods[0]} writes" if len(methods) == 1 else f"methods {methods[0]} and {methods[1]} write"
-
-
-def right_length(now: Yard, goal: Yard, count: int) -> str:
-    """The sentence on a list of so many lifts; `untrue` holds what such a sentence claims to the search."""
-    astray = reading.misplaced(now, goal)
-    if not astray:
-        return "no lifts are needed: nothing is misplaced" + (f"; this list has {count}" if count else "")
-    more = count - len(astray) - reading.deadlocked(now, goal)
-    counts = [len(read(planning(method, now, goal)).pairs) for method in METHODS]
-    best = [method for method in METHODS if counts[method - 1] == min(counts) < count]
-    about = "" if count - min(counts) == more else "at most "
-    end = f"{about}{more} more than the shortest" if more else "so none is shorter"
-    known = f"; {writers(best)} {min(counts)}" if best else ""
-    return f"{right_floor(now, goal)}; this list has {count}, {end}{known}"
-
-
-def untrue(now: Yard, goal: Yard, count: int, sentence: str) -> str:
-    """What a sentence on a list claims of the shortest one that the search does not find."""
-    fewest = reading.shortest(now, goal)
-    wrong = []
-    if found := re.match(r"at least (\d+) lift", sentence):
-        wrong += [found[0]] * (fewest < int(found[1]))
-    if "none is shorter" in sentence or "no lifts are needed: nothing is misplaced" == sentence:
-        wrong += ["none is shorter"] * (fewest != count)
-    if found := re.search(r"(at most )?(\d+) more than the shortest", sentence):
-        more = int(found[2])
-        wrong += [found[0]] * (count - fewest > more or not found[1] and count - fewest != more)
-    return f"{sheet_line(now, goal)}: {wrong}, and the shortest has {fewest}" if wrong else ""
-
-
-def right_plan(method: int, now: Yard, goal: Yard) -> str:
-    """All that the tool should print of a plan, its lines unwrapped."""
-    (_, _, count, changed), pairs = read(planning(method, now, goal))
-    counts = ", ".join(f"{len(read(planning(m, now, goal)).pairs)} by method {m}" for m in METHODS)
-    rows = [
-        f"list: {list_line(pairs) or 'no lifts'}",
-        f"sheet: {sheet_line(now, goal)}",
-        f"method: {method} ({('US', 'GN1', 'GN2')[method - 1]})",
-        f"lifts: {counts}",
-        f"changed: {changed} (slabs whose now and goal entries differ)",
-    ]
-    return "\n".join([right_length(now, goal, count), *reasons(method, now, goal, pairs), *rows])
-
-
-def right_deadlock(now: Yard, goal: Yard) -> str:
-    """All that the tool should print of a deadlock test, its lines unwrapped."""
-    pairs, astray = read(testing(now, goal)).pairs, len(reading.misplaced(now, goal))
-    are = counted(astray, "slab is", "slabs are")
-    if pairs:
-        said = [f"deadlock: {named_slabs([slab for slab, _ in pairs], False)}", *ring_words(now, goal)]
-        said.append(f"{are} misplaced, so every list that arrives has at least {astray + 1} lifts, one more than that")
-    elif astray:
-        said = ["no deadlock", f"{are} misplaced, and methods 2 and 3 lift each once: none is shorter"]
-    else:
-        said = ["no deadlock: nothing is misplaced"]
-    row = f"pairs: {', '.join(f'{slab} {d}' for slab, d in pairs) or 'none'}"
-    return "\n".join([*said, row, f"sheet: {sheet_line(now, goal)}"])
-
-
-def right_check(now: Yard, goal: Yard) -> str:
-    """All that the tool should print of an accepted sheet, its lines unwrapped."""
-    astray, links = reading.misplaced(now, goal), ring_words(now, goal)
-    piles = [counted(list(yard).count(0), "pile", "piles") for yard in (now, goal)]
-    some = f"{counted(len(astray), 'slab', 'slabs')} misplaced" + (f": {', '.join(map(str, astray))}" if astray else "")
-    if links:
-        slabs = [slab for slab, _ in read(testing(now, goal)).pairs]
-        some += f"; {named_slabs(slabs, True)} deadlocked ({'; '.join(links)})"
-    head = f"accepted: {counted(len(now), 'slab', 'slabs')}, {piles[0]} now and {piles[1]} in the goal"
-    return "\n".join([head, some, f"sheet: {sheet_line(now, goal)}"])
-
-
-# Document 01, "What is lent and written": what is bad about a lift.
-VERDICTS = {
-    1: "the slab is not in 1 to n or the destination is above n",
-    2: "the slab is not clear",
-    3: "it already rests there",
-    4: "the destination is the slab itself or a slab that is not clear",
-}
-
-
-def resting(support: int) -> str:
-    """Where a slab rests."""
-    return f"on {support}" if support else "on the ground"
-
-
-def in_the_way(yard: Yard, slab: int, destination: int, verdict: int) -> str:
-    """What is in the way of a bad lift."""
-    if verdict == 1:
-        return f"there is no slab {f'{destination} to rest on' if slab in reading.slabs(yard) else slab}"
-    if verdict == 2:
-        return f"slab {list(yard).index(slab) + 1} rests on slab {slab}"
-    if verdict == 3:
-        return f"slab {slab} rests on {destination or 'the ground'} already"
-    if destination == slab:
-        return f"slab {slab} cannot rest on itself"
-    return f"slab {list(yard).index(destination) + 1} rests on slab {destination}"
-
-
-def right_replay(now: Yard, goal: Yard, pairs: Sequence[Pair]) -> str:
-    """All that the tool should print of a replay, its lines unwrapped."""
-    _, verdict, place = reading.replay(now, goal, [number for pair in pairs for number in pair])
-    legal = pairs if verdict in (0, 5) else pairs[: place - 1]
-    yard = now
-    for pair in legal:
-        yard = reading.lifted(yard, *pair)
-    if verdict == 0:
-        said = [f"arrives: {counted(len(pairs), 'lift is', 'lifts are')} legal, and the end is the goal"]
-        said.append(right_length(now, goal, len(pairs)))
-    elif verdict == 5:
-        rests, shall = resting(yard[place - 1]), resting(goal[place - 1])
-        end = f"slab {place} rests {rests} and shall rest {shall}"
-        said = [f"all lifts are legal and the end differs from the goal: {end}"]
-    else:
-        slab, destination = pairs[place - 1]
-        way = in_the_way(yard, slab, destination, verdict)
-        said = [f"lift {place}, {slab}→{destination}: {VERDICTS[verdict]}: {way}"]
-    rows = [f"verdict: {verdict}, place {place}", f"list: {list_line(pairs) or 'no lifts'}"]
-    return "\n".join([*said, *rows, f"sheet: {sheet_line(now, goal)}"])
-
-
-# ---- tools/sheet: what it says
 
 
 def unwrapped(text: str) -> str:
@@ -322,6 +149,11 @@ def sheet_records() -> Iterator[Test]:
     ended = run(["sheet", "records", "3", *(sheet_line(*sheet) for sheet in some)])
     right = [records.asked(3, *sheet).hex(" ").upper() for sheet in some]
     yield "tools/sheet, records of several sheets", unlike(ended.stdout.split("\n\n"), [*right[:-1], f"{right[-1]}\n"])
+    ended = run(["sheet", "records", *example, "2 0 / 0 1", "--bytes"])
+    yield "tools/sheet, bytes of several sheets", unlike(ended.stdout.encode(), EXAMPLE[0] * 2)
+    over = sheet_line([0] * (TOP + 1), [0] * (TOP + 1))
+    ended = run(["sheet", "records", "2", "-"], given=over)
+    yield "tools/sheet, records of too many slabs", misended(ended, 2, [f"can name {TOP} at most"])
 
 
 def some_sheets() -> list[tuple[Yard, Yard]]:
@@ -329,7 +161,8 @@ def some_sheets() -> list[tuple[Yard, Yard]]:
     rng = random.Random(sheets.SEED)
     found = [*sheets.small_sheets()]
     found += [sheets.random_sheet(rng, 5 + number % 2, number % 3) for number in range(RANDOM_SHEETS)]
-    return [*found, *(sheets.random_sheet(rng, 12, number % 3) for number in range(12)), *sheets.TRIALS]
+    larger = [*(sheets.random_sheet(rng, 12, number % 3) for number in range(12)), *sheets.TRIALS, *SEVERAL]
+    return [*found, *larger, *(sheets.ring(n)[:2] for n in (8, 10, 40))]
 
 
 def sheet_words(page: dict[str, str]) -> Iterator[Test]:
@@ -362,7 +195,7 @@ def some_lists() -> Iterator[tuple[Yard, Yard, list[Pair]]]:
 
 
 def sheet_replays() -> Iterator[Test]:
-    """The words on lists, read from JSON, and each as an object."""
+    """The words on lists, read from JSON, and what they claim of the shortest list; and each as an object."""
     some = list(some_lists())
     given = "\n".join(
         json.dumps({"sheet": sheet_line(now, goal), "lifts": [{"slab": s, "destination": d} for s, d in pairs]})
@@ -373,56 +206,38 @@ def sheet_replays() -> Iterator[Test]:
     yield f"tools/sheet replay, {len(some)} lists", unlike_each(ended, [one[:2] for one in some], right)
     yield "tools/sheet replay, status", unlike(ended.returncode, 1)
     ended = run(["sheet", "replay", "-", "--json"], given=given)
-    found = [json.loads(line) for line in ended.stdout.splitlines()]
-    verdicts = [reading.replay(now, goal, [x for pair in pairs for x in pair]) for now, goal, pairs in some]
-    yield "tools/sheet replay --json", unlike([(a["refusal"], a["verdict"], a["place"]) for a in found], verdicts)
+    yield "tools/sheet replay --json", unlike_objects(ended, [replay_object(*one) for one in some])
+    faults = (untrue(*one[:2], len(one[2]), told["length"]) for one, told in zip(some, objects(ended)) if told["length"])
+    yield "tools/sheet replay, what it claims", next(filter(None, faults), "")
+
+
+def objects(ended: Ended) -> list[dict[str, object]]:
+    """The objects that were printed."""
+    return [json.loads(line) for line in ended.stdout.splitlines()]
+
+
+def unlike_objects(ended: Ended, right: Sequence[dict[str, object]]) -> str:
+    """The first object that is not the right one."""
+    found = objects(ended)
+    if len(found) != len(right):
+        return f"ends with {ended.returncode} after {len(found)} objects: {ended.stderr}"
+    return next((unlike(one, other) for one, other in zip(found, right) if one != other), "")
 
 
 def sheet_objects() -> Iterator[Test]:
-    """The objects of --json, held to the reading."""
+    """The objects of --json, whole, held to the reading; those of refusals by their numbers."""
     some = some_sheets()
     lines = "\n".join(sheet_line(*sheet) for sheet in some)
     for method in METHODS:
         ended = run(["sheet", "plan", str(method), "-", "--json"], given=lines)
-        wrong = "" if ended.returncode == 0 else f"ends with {ended.returncode}: {ended.stderr}"
-        for sheet, line in zip(some, ended.stdout.splitlines(), strict=True):
-            wrong = wrong or unlike_object(method, *sheet, json.loads(line))
-        yield f"tools/sheet plan --json, {len(some)} sheets by {method}", wrong
-    ended = run(["sheet", "deadlock", "-", "--json"], given=lines)
-    found = [[tuple(pair) for pair in json.loads(line)["deadlock"]] for line in ended.stdout.splitlines()]
-    yield "tools/sheet deadlock --json", unlike(found, [read(testing(*sheet)).pairs for sheet in some])
+        right = [plan_object(method, *sheet) for sheet in some]
+        yield f"tools/sheet plan --json, {len(some)} sheets by {method}", unlike_objects(ended, right)
+    for command, made in (("deadlock", deadlock_object), ("check", check_object)):
+        ended = run(["sheet", command, "-", "--json"], given=lines)
+        yield f"tools/sheet {command} --json", unlike_objects(ended, [made(*sheet) for sheet in some])
     ended = run(["sheet", "check", "--json", *(line for method, line, *_ in REFUSED if method == 2)])
-    found = [(answer["refusal"], answer["place"]) for answer in map(json.loads, ended.stdout.splitlines())]
-    yield "tools/sheet check --json", unlike(found, [right for method, _, right, _ in REFUSED if method == 2])
-
-
-def unlike_object(method: int, now: Yard, goal: Yard, told: dict[str, Any]) -> str:
-    """Where an object of a plan differs from the reading."""
-    (_, _, count, changed), pairs = read(planning(method, now, goal))
-    astray = reading.misplaced(now, goal)
-    right = {
-        "sheet": sheet_line(now, goal),
-        "method": method,
-        "refusal": 0,
-        "count": count,
-        "changed": changed,
-        "misplaced": astray,
-        "deadlock": [list(pair) for pair in read(testing(now, goal)).pairs],
-        "floor": len(astray) + reading.deadlocked(now, goal),
-        "words": right_length(now, goal, count),
-    }
-    found = {name: told[name] for name in right}
-    lines = [
-        f"{k}. slab {lift['slab']} {'onto ' + str(lift['destination']) if lift['destination'] else 'to the ground'}: "
-        f"{lift['reason']}"
-        for k, lift in enumerate(told["lifts"], 1)
-    ]
-    homes = [line.endswith(": home") for line in lines]
-    return (
-        unlike(found, right)
-        or unlike(lines, reasons(method, now, goal, pairs))
-        or unlike([lift["home"] for lift in told["lifts"]], homes)
-    )
+    found = [(answer["refusal"], answer["place"]) for answer in objects(ended)]
+    yield "tools/sheet check --json, refusals", unlike(found, [right for method, _, right, _ in REFUSED if method == 2])
 
 
 def sheet_refusals() -> Iterator[Test]:
@@ -437,7 +252,12 @@ def sheet_refusals() -> Iterator[Test]:
                 wrong = misended(ended, 1, [f"refused: {number}, place {place}"])
                 yield f"tools/sheet {command[0]}, refusal of {line[:40]}", wrong
     for line, parts in UNREADABLE:
-        yield f"tools/sheet, line {line}", misended(run(["sheet", "plan", "2", line]), 2, parts)
+        yield f"tools/sheet, line {line!r}", misended(run(["sheet", "plan", "2", line]), 2, parts)
+    for before in (3, 30, 300):
+        ended = run(["sheet", "check", f"{'1 ' * before}bad {'2 ' * 50}/ 0"])
+        _, part, mark, *_ = ended.stderr.splitlines()
+        pointed = part[mark.index("^") :].startswith("bad 2 2") and part[: mark.index("^")].endswith("1 1 1 ")
+        yield f"tools/sheet, the mark beneath column {2 * before + 1}", "" if pointed else f"{part!r} above {mark!r}"
     others = [
         (["plan", "x", "0 / 0"], "the method, 'x', is not a number"),
         (["replay", "0 / 0"], "there is no list to replay"),
@@ -454,46 +274,116 @@ def sheet_refusals() -> Iterator[Test]:
 
 
 def sheet_sources() -> Iterator[Test]:
-    """Sheets with names, from files, from standard input, and from what the tool printed."""
+    """Sheets with names, from files, from standard input, and from what the tool printed; lists likewise."""
     now, goal = sheets.STATED[3]
     right = right_plan(2, now, goal)
     named = f"S4: {sheet_line(now, goal)}"
     with tempfile.TemporaryDirectory() as folder:
         file = Path(folder) / "sheets"
-        file.write_text(f"# two sheets\n\n{named}  # the second belief\n  0 / 0\n")
-        for what, ended in (
-            ("a file", run(["sheet", "plan", "2", str(file)])),
-            ("standard input", run(["sheet", "plan", "2", "-"], given=file.read_text())),
-            ("lines", run(["sheet", "plan", "2", named, "0/0"])),
-        ):
+        text = f"# two sheets\n\n{named}  # the second belief\n  0 / 0\n"
+        for what, data in (("a file", text), ("a file with CRLF", text.replace("\n", "\r\n")), ("a BOM", f"\ufeff{text}")):
+            file.write_bytes(data.encode())
             wished = [right.replace("sheet: ", "sheet: S4: "), right_plan(2, [0], [0])]
-            yield f"tools/sheet, sheets from {what}", unlike_each(ended, [(now, goal), ([0], [0])], wished)
-        file.write_text("0 / 0\n0 / x\n")
+            for where, ended in (
+                (what, run(["sheet", "plan", "2", str(file)])),
+                (f"{what} as standard input", run(["sheet", "plan", "2", "-"], given=data)),
+                ("lines", run(["sheet", "plan", "2", named, "0/0"])),
+            ):
+                yield f"tools/sheet, sheets from {where}", unlike_each(ended, [(now, goal), ([0], [0])], wished)
+        file.write_text("0 / 0\n\n# none\n0 / x\n")
         ended = run(["sheet", "check", str(file)])
-        yield "tools/sheet, a bad line of a file", misended(ended, 2, [f"{file}, line 2: column 5", "goal entry 1"])
+        yield "tools/sheet, a bad line of a file", misended(ended, 2, [f"{file}, line 4: column 5", "goal entry 1"])
         file.write_bytes(b"\xff\xfe")
         yield "tools/sheet, a file that is no text", misended(run(["sheet", "check", str(file)]), 2, ["cannot be read"])
-    long = sheets.ring(60)[:2]
+        file.write_text("# nothing\n")
+        for words in ([str(file)], ["-"]):
+            ended = run(["sheet", "plan", "2", *words])
+            yield f"tools/sheet, nothing in {words[0][-6:]}", misended(ended, 2, ["there is no sheet in"])
+        pairs = read(planning(3, now, goal)).pairs
+        for what, text in (("a file", f"# by 3\n{list_line(pairs)}  # all\n"), ("what plan prints", printed(named))):
+            file.write_text(text)
+            for where, words, given in ((what, str(file), ""), (f"{what} as standard input", "-", text)):
+                ended = run(["sheet", "replay", sheet_line(now, goal), words], given=given)
+                wrong = unlike_each(ended, [(now, goal)], [right_replay(now, goal, pairs)])
+                yield f"tools/sheet replay, a list from {where}", wrong
+
+
+def printed(*words: str) -> str:
+    """What the tool prints of plans by method 3."""
+    return run(["sheet", "plan", "3", *words]).stdout
+
+
+def sheet_pipes() -> Iterator[Test]:
+    """One call's answers as another one's questions, refusals among them; and what does not belong among answers."""
+    now, goal = sheets.STATED[3]
+    named, long = f"S4: {sheet_line(now, goal)}", sheets.ring(60)[:2]
     for form in ([], ["--json"]):
-        printed = run(["sheet", "plan", "3", named, sheet_line(*long), *form]).stdout
-        ended = run(["sheet", "replay", "-"], given=printed)
+        text = printed(named, "1 / 0", sheet_line(*long), *form)
+        ended = run(["sheet", "replay", "-"], given=text)
         parts = [list_line(read(planning(3, *sheet)).pairs) for sheet in ((now, goal), long)]
-        parts += ["arrives: 3 lifts", "arrives: 31 lifts"]
-        wrong = misended(ended, 0) or lacking(unwrapped(ended.stdout), parts)
+        parts += ["arrives: 3 lifts", "refused: 6, place 1", "arrives: 31 lifts"]
+        wrong = misended(ended, 1) or lacking(unwrapped(ended.stdout), parts)
         yield f"tools/sheet replay, what plan prints {form}", wrong
+        again = run(["sheet", "replay", "-", *form], given=run(["sheet", "replay", "-", *form], given=text).stdout)
+        wrong = misended(again, 1) or lacking(unwrapped(again.stdout), ["31"])
+        yield f"tools/sheet replay, what replay prints {form}", wrong
+    ended = run(["sheet", "check", "-"], given=f"{printed(named)}\n0 / 0\n")
+    wrong = misended(ended, 0) or unlike(ended.stdout.count("accepted:"), 2)
+    yield "tools/sheet, a plain line behind what it printed", wrong
+    ended = run(["sheet", "check", "-"], given=f"{printed(named)}0 / 0\n")
+    yield "tools/sheet, a plain line within what it printed", misended(ended, 2, ["a sheet stands among what"])
+    ended = run(["sheet", "check", "-"], given=f"sheet: 2 0 / 0 1\n{named}\n")
+    yield "tools/sheet, a sheet by the name sheet", unlike(ended.stdout.count("accepted:"), 2)
+
+
+# Objects that tools/sheet does not print, and what the message must say.
+UNTOLD = [
+    ('{"sheet": "2 0 / 0 1", "lifts": [{"slab": 70000, "destination": 0}]}', "slab, 70000, is not a number"),
+    ('{"sheet": "2 0 / 0 1", "lifts": [{"slab": -1, "destination": 0}]}', "slab, -1, is not a number"),
+    ('{"sheet": "2 0 / 0 1", "lifts": [{"slab": 1}]}', "destination"),
+    ('{"sheet": "2 0 / 0 1", "method": 1e400, "list": ""}', "method, inf"),
+    ('{"sheet": "2 0 / 0 1", "name": 5, "list": ""}', "not what `tools/sheet --json` prints"),
+    ('{"sheet": "2 0 / x", "list": ""}', "goal entry 1"),
+    ('{"sheet": ' + "[" * 100_000, "not what `tools/sheet --json` prints"),
+    ("{", "not what `tools/sheet --json` prints"),
+]
+
+
+def sheet_edges() -> Iterator[Test]:
+    """Objects that cannot be read, words and locales of other encodings, and closed ends."""
+    for text, part in UNTOLD:
+        yield f"tools/sheet, {text[:60]}", misended(run(["sheet", "replay", "-"], given=text), 2, [part])
+    bare = {"LC_ALL": "C", "PYTHONUTF8": "0", "PYTHONIOENCODING": "ascii", "PYTHONCOERCECLOCALE": "0"}
+    ended = run(["sheet", "replay", "Höfe: 2 0 / 0 1", "1→0, 2→1"], **bare)
+    yield "tools/sheet, words of another locale", misended(ended, 0, ["Höfe: 2 0 / 0 1", "1→0, 2→1"])
+    for tool in ("sheet", "draw", "page", "card", "records.py"):
+        yield f"tools/{tool} --help in another locale", misended(run([tool, "--help"], **bare), 0, [f"tools/{tool}"])
+    words = [sys.executable.encode(), bytes(ROOT / "tools" / "sheet"), b"check", b"\xff: 0 / 0"]
+    ended = subprocess.run(words, capture_output=True, text=True, check=False)
+    yield "tools/sheet, a word that is not UTF-8", misended(ended, 2, ["is not UTF-8"])
+    words = ["sh", "-c", 'exec "$0" "$@" <&-', sys.executable, str(ROOT / "tools" / "sheet"), "check", "-"]
+    ended = subprocess.run(words, capture_output=True, text=True, check=False)
+    yield "tools/sheet, closed standard input", misended(ended, 2, ["standard input cannot be read"])
 
 
 def unwritten() -> Iterator[Test]:
-    """A failing write is an error of its own."""
-    words = [sys.executable, str(ROOT / "tools" / "sheet"), "plan", "2", "2 0 / 0 1"]
-    with open("/dev/full", "wb") as full:
-        ended = subprocess.run(words, stdout=full, stderr=subprocess.PIPE, text=True, check=False)
-    yield "tools/sheet, a full disk", unlike((ended.returncode, "could not be written" in ended.stderr), (3, True))
+    """A failing write is an error of its own, of every tool."""
+    example = "2 0 / 0 1"
+    for words in (["sheet", "plan", "2", example], ["draw", example], ["page", example], ["card"], ["records.py", "pack"]):
+        command = [sys.executable, str(ROOT / "tools" / words[0]), *words[1:]]
+        with open("/dev/full", "wb") as full:
+            ended = subprocess.run(command, stdout=full, stderr=subprocess.PIPE, input="NW 1\n", text=True, check=False)
+            told = subprocess.run([*command[:2], "--help"], stdout=full, stderr=subprocess.PIPE, text=True, check=False)
+        said = [(one.returncode, "could not be written" in one.stderr) for one in (ended, told)]
+        yield f"tools/{words[0]}, a full disk", unlike(said, [(3, True)] * 2)
+    command = [sys.executable, str(ROOT / "tools" / "sheet"), "plan", "2", example]
     reader, writer = os.pipe()
     os.close(reader)
     with open(writer, "wb") as closed:
-        ended = subprocess.run(words, stdout=closed, stderr=subprocess.PIPE, text=True, check=False)
+        ended = subprocess.run(command, stdout=closed, stderr=subprocess.PIPE, text=True, check=False)
     yield "tools/sheet, a closed pipe", unlike((ended.returncode, ended.stderr.count("\n")), (3, 1))
+    ended = subprocess.run(["sh", "-c", 'exec "$0" "$@" >&-', *command], capture_output=True, text=True, check=False)
+    yield "tools/sheet, closed standard output", misended(ended, 3, ["standard output is closed"])
 
 
 def alone() -> Iterator[Test]:
@@ -511,11 +401,16 @@ def alone() -> Iterator[Test]:
 
 
 def on_demand() -> Iterator[Test]:
-    """The library is built where it is missing, with a line that says so, and once."""
+    """The library is built where it is missing or old, and so is the shared object, each with a line that says so."""
     with tempfile.TemporaryDirectory() as folder:
         root = Path(folder)
         shutil.copytree(ROOT / "tools", root / "tools", ignore=shutil.ignore_patterns("__pycache__"))
-        (root / "crates.txt").touch()
+        source, archive = root / "crates" / "one" / "src" / "lib.rt", root / "target" / "staticlib" / "libtopjeska.a"
+        made = root / "target" / "tools" / "libtopjeska.so"
+        source.parent.mkdir(parents=True)
+        for file in (root / "crates.txt", source):
+            file.touch()
+            os.utime(file, (1, 1))
         builder = root / "bin" / "rt"
         builder.parent.mkdir()
         builder.write_text(
@@ -523,22 +418,38 @@ def on_demand() -> Iterator[Test]:
             f"mkdir -p target/staticlib && cp '{LIBRARY / 'libtopjeska.a'}' target/staticlib/\n"
         )
         builder.chmod(0o755)
-        around = {**os.environ, "PATH": f"{builder.parent}:{os.environ['PATH']}"}
-        around.pop("TOPJESKA_LIB_DIR", None)
-        words = [sys.executable, str(root / "tools" / "sheet"), "check", "2 0 / 0 1"]
-        for what, parts in (("first", 2), ("again", 0)):
-            ended = subprocess.run(words, capture_output=True, text=True, env=around, check=False)
-            lines = ended.stderr.splitlines()
-            told = (ended.returncode, len(lines), parts == 0 or "rt staticlib topjeska" in lines[0])
-            yield f"tools/sheet, the library built on demand, {what}", unlike(told, (0, parts, True))
+        around = {"PATH": f"{builder.parent}:{os.environ['PATH']}", "TOPJESKA_LIB_DIR": ""}
+
+        def said() -> tuple[int, list[str]]:
+            """How the tool ends, and the first word of each line that it says."""
+            ended = run(["sheet", "check", "2 0 / 0 1"], root=root, **around)
+            return ended.returncode, [line.split()[0] for line in ended.stderr.splitlines()]
+
+        yield "tools/sheet, the library built on demand", unlike(said(), (0, ["building", "making"]))
+        yield "tools/sheet, the library as it is", unlike(said(), (0, []))
+        yield "tools/sheet, others may load it", unlike(made.stat().st_mode & 0o777, 0o755)
+        later = archive.stat().st_mtime + 10
+        os.utime(source, (later, later))
+        archive.unlink()
+        archive.write_bytes((LIBRARY / "libtopjeska.a").read_bytes())
+        yield "tools/sheet, a library older than its sources", unlike(said(), (0, ["building", "making"]))
+        os.utime(source, (1, 1))
+        os.utime(archive, (later, later))
+        yield "tools/sheet, a shared object older than the library", unlike(said(), (0, ["making"]))
+        os.utime(archive, (1, 1))
+        os.utime(source, (0, 0))
+        os.utime(root / "crates.txt", (0, 0))
+        made.write_bytes(b"")
+        yield "tools/sheet, a damaged shared object", unlike(said(), (0, ["the", "making"]))
         builder.write_text("#!/bin/sh\necho not proved\nexit 1\n")
         shutil.rmtree(root / "target")
-        ended = subprocess.run(words, capture_output=True, text=True, env=around, check=False)
+        ended = run(["sheet", "check", "2 0 / 0 1"], root=root, **around)
         wrong = misended(ended, 2, ["the library is not built: rt ends with 1", "not proved"])
         yield "tools/sheet, a library that cannot be built", wrong
 
 
 def tests(page: dict[str, str]) -> Iterator[Test]:
     """All tests of the tools, with the sheets of a page as they are typed."""
-    of_sheet = (sheet_records(), sheet_words(page), sheet_replays(), sheet_objects(), sheet_refusals(), sheet_sources())
-    return itertools.chain(records_tool(), *of_sheet, unwritten(), alone(), on_demand())
+    of_answers = (sheet_words(page), sheet_replays(), sheet_objects(), sheet_refusals())
+    of_words = (sheet_records(), sheet_sources(), sheet_pipes(), sheet_edges(), unwritten())
+    return itertools.chain(records_tool(), *of_answers, *of_words, alone(), on_demand())

@@ -3,13 +3,13 @@
 The structs with their fields in order, the functions with their parameters in order, the widths of
 both, and the filler of a refused replay are read from include/topjeska.h, crates/topjeska/src/lib.rt
 and rust/src/ffi.rs, and held to each other; so is what library.py and reading.py take for granted. The
-constants of header and wrapper are held to each other, their numbers and words to tools/rules.py, and
-the version to rust/Cargo.toml. Then tests/c/fields.c names every field, and every constant that a call
-takes or answers, on sheets where an exchange shows, and tests/c/stack.c holds the stack of each call to
-the header's bound and table. Last the test is tried itself: each exchange of two fields, two parameters
-or two constants in one of the files, each of two fields or two lists between fields.c and the library,
-each constant of fields.c with another value, and smaller bounds for stack.c must be noticed. The last
-line is 'N passed, M failed'.
+constants and the comments of header and wrapper are held to each other, their numbers and words to
+tools/rules.py, and the version to rust/Cargo.toml. Then tests/c/fields.c names every field, and every
+constant that a call takes or answers, on sheets where an exchange shows, and tests/c/stack.c holds the
+stack of each call to the header's bound and table. Last the test is tried itself: each exchange of two
+fields, two parameters or two constants in one of the files, another word in each comment, each exchange
+of two fields or two lists between fields.c and the library, each constant of fields.c with another value,
+and smaller bounds for stack.c must be noticed. The last line is 'N passed, M failed'.
 """
 
 import argparse
@@ -65,8 +65,9 @@ class Interface(NamedTuple):
 
 
 class Language(NamedTuple):
-    """How a file is read: its declarations, what ends a field, the names in a body, the names of one part of it."""
+    """How a file is read: its opening and its declarations, with their comments; what ends a field; names in a body."""
 
+    opening: re.Pattern[str]
     struct: re.Pattern[str]
     function: re.Pattern[str]
     constant: re.Pattern[str]
@@ -94,24 +95,35 @@ def in_rust(part: str) -> Iterator[Named]:
         yield f"{name}_len", "usize"
 
 
+ABOVE_C = r"(?:^/\* (?P<words>[^/]*?) \*/\n)?"
 C = Language(
-    re.compile(r"^typedef struct \{(?P<body>[^}]*)\} topjeska_(?P<name>\w+)_answer;", re.MULTILINE),
-    re.compile(r"^topjeska_(?P<result>\w+)_answer topjeska_(?P<name>\w+)\((?P<body>[^)]*)\);", re.MULTILINE),
+    re.compile(r"\A/\* .*\n(?P<words>(?s:.*?)) \*/\n"),
+    re.compile(ABOVE_C + r"^typedef struct \{(?P<body>[^}]*)\} topjeska_(?P<name>\w+)_answer;", re.MULTILINE),
     re.compile(
-        r"(?:^/\* (?P<words>[^/]*?) \*/\n)?"
-        r"^#define TOPJESKA_(?P<name>\w+)(?: |\(n\) \()(?P<number>\d+)u?(?: \* \(n\)\))?$",
+        ABOVE_C + r"^topjeska_(?P<result>\w+)_answer topjeska_(?P<name>\w+)\((?P<body>[^)]*)\);", re.MULTILINE
+    ),
+    re.compile(
+        ABOVE_C + r"^#define TOPJESKA_(?P<name>\w+)(?: |\(n\) \()(?P<number>\d+)u?(?: \* \(n\)\))?$",
         re.MULTILINE,
     ),
     ";",
     re.compile(r"\w+(?=\s*(?:[,;]|$))"),
     in_c,
 )
+ABOVE_RUST = r"(?P<words>(?:^ */// .*\n)*)"
 RUST = Language(
-    re.compile(r"^#\[repr\(C\)\](?:\s#\[.*\])*\spub struct (?P<name>\w+)Answer \{(?P<body>[^}]*)\}", re.MULTILINE),
-    re.compile(r'\bpub (?:extern "C" )?fn topjeska_(?P<name>\w+)\((?P<body>[^)]*)\) -> (?P<result>\w+)Answer'),
+    re.compile(r"\A//! .*\n(?P<words>(?://!.*\n)+)"),
     re.compile(
-        r"(?P<words>(?:^/// .*\n)*)"
-        r"^(?:pub )?const (?:fn )?(?P<name>\w+)(?:: \w+ = |\(n: usize\) -> usize \{\s+)(?P<number>\d+)(?: \* n$|;$)",
+        ABOVE_RUST + r"^#\[repr\(C\)\](?:\s#\[.*\])*\spub struct (?P<name>\w+)Answer \{(?P<body>[^}]*)\}",
+        re.MULTILINE,
+    ),
+    re.compile(
+        ABOVE_RUST + r'^ *pub (?:extern "C" )?fn topjeska_(?P<name>\w+)\((?P<body>[^)]*)\) -> (?P<result>\w+)Answer',
+        re.MULTILINE,
+    ),
+    re.compile(
+        ABOVE_RUST + r"^(?:pub )?const (?:fn )?(?P<name>\w+)"
+        r"(?:: \w+ = |\(n: usize\) -> usize \{\s+)(?P<number>\d+)(?: \* n$|;$)",
         re.MULTILINE,
     ),
     ",",
@@ -128,7 +140,7 @@ def listed(language: Language, body: str, between: str) -> list[Named]:
 
 def one_line(comment: str) -> str:
     """The words of a comment in one line."""
-    return " ".join(re.sub(r"^(?: \*|///)", "", comment, flags=re.MULTILINE).split())
+    return " ".join(re.sub(r"^ *(?:\*|//[/!])", "", comment, flags=re.MULTILINE).split())
 
 
 def declared(language: Language, text: str) -> Interface:
@@ -209,6 +221,7 @@ NAMED = {
     **{f"METHOD_{name}": number for number, name in rules.METHODS.items()},
 }
 WORDED = {
+    "METHOD": {number: f"{name}: {rules.METHOD_WORDS[number]}." for number, name in rules.METHODS.items()},
     "REFUSAL": {number: asked(question) for number, question in rules.QUESTIONS.items()},
     "VERDICT": {number: judged(verdict) for number, verdict in rules.VERDICTS.items()},
 }
@@ -251,6 +264,52 @@ def constants_wrong() -> Iterator[tuple[str, list[str]]]:
     yield "the header and the Rust wrapper", unshared(header, wrapper)
     told = re.findall(r'^#define TOPJESKA_VERSION "(.*)"$', HEADER.read_text(), re.MULTILINE)
     yield "the header and rust/Cargo.toml", [] if told == [version()] else [f"version {told}, {version()}"]
+
+
+# ---- comments
+
+# What callers must be told, however both files put the rest.
+TOLD = {
+    "opening": ["entry i - 1 says what slab i rests on, 0 for the ground", "may be null where the length is 0"],
+    "constant plan_space": ["the numbers of lent space"],
+    "constant deadlock_space": ["the numbers of lent space"],
+    "function plan": ["as pairs: slab, destination", "what lies behind the pairs keeps what it held"],
+    "function deadlock": ["as pairs: the slab, and the slab through which the next one is in its way"],
+}
+
+
+def comments(language: Language, text: str) -> dict[str, re.Match[str]]:
+    """The comments of a text by what they are of: the opening, structs, functions and constants."""
+    found = {"opening": language.opening.search(text)}
+    for kind in ("struct", "function", "constant"):
+        found |= {f"{kind} {match['name'].lower()}": match for match in getattr(language, kind).finditer(text)}
+    return {of: match for of, match in found.items() if match and match["words"]}
+
+
+def shared_words(path: Path, text: str) -> dict[str, str]:
+    """The comments of the header's or the wrapper's text in the words of both; the table of stacks is the header's."""
+    words = {of: one_line(match["words"]) for of, match in comments(LANGUAGES[path], text).items()}
+    plain = {of: said.replace("TOPJESKA_", "").replace("`", "").lower() for of, said in words.items()}
+    return {of: said.partition(" measured with a thread")[0] for of, said in plain.items()}
+
+
+def misworded(header: str, wrapper: str) -> list[str]:
+    """The comments that the texts of header and wrapper do not both have, or that differ."""
+    one, other = shared_words(HEADER, header), shared_words(WRAPPER, wrapper)
+    return sorted({of for of, _ in one.items() ^ other.items()})
+
+
+def untold(header: str) -> list[str]:
+    """What the header's comments should say and do not."""
+    words = shared_words(HEADER, header)
+    return [f"{of}: {part}" for of, parts in TOLD.items() for part in parts if part not in words.get(of, "")]
+
+
+def comments_wrong() -> Iterator[tuple[str, list[str]]]:
+    """What is wrong with the comments."""
+    header, wrapper = HEADER.read_text(), WRAPPER.read_text()
+    yield "the comments of the header and the Rust wrapper", misworded(header, wrapper)
+    yield "what the header's comments must say", untold(header)
 
 
 # ---- the stack
@@ -308,6 +367,14 @@ def renumbered(path: Path) -> Iterator[tuple[str, str]]:
             yield f"{path.name}: {one['name']} and {other['name']}", done
 
 
+def reworded(path: Path) -> Iterator[tuple[str, str]]:
+    """A file with another word at the beginning of one comment, each time with what was done."""
+    text = path.read_text()
+    for of, found in comments(LANGUAGES[path], text).items():
+        start, end = found.span("words")
+        yield f"{path.name}: {of}", text[:start] + re.sub(r"\w+", "Otherwise", text[start:end], count=1) + text[end:]
+
+
 # A number that no constant has; the constants that no call of fields.c takes or answers.
 OTHER = "77"
 UNCALLED = {"REFUSAL_RECORD", "REFUSAL_STALL", "STACK_BYTES", "VERSION_MAJOR", "VERSION_MINOR", "VERSION_PATCH"}
@@ -344,6 +411,10 @@ def trials(library: Path) -> Iterator[tuple[str, bool]]:
     for path in (HEADER, WRAPPER):
         for name, text in renumbered(path):
             yield name, bool(misnumbered(path, declared(LANGUAGES[path], text).constants))
+    for name, text in reworded(HEADER):
+        yield name, bool(misworded(text, WRAPPER.read_text()))
+    for name, text in reworded(WRAPPER):
+        yield name, bool(misworded(HEADER.read_text(), text))
     folder = TARGET / "exchanged"
     folder.mkdir(parents=True, exist_ok=True)
     for name, text in itertools.chain(exchanges(HEADER, C.struct), rerouted(), altered()):
@@ -372,7 +443,8 @@ def main() -> int:
             print(f"failed: the header and {name}: {what}")
         passed, failed = passed + (not wrong), failed + len(wrong)
     stack = stacked(library, TARGET)
-    for name, wrong in (*constants_wrong(), ("the header's table and stack.c", mistabled(stack.said))):
+    tabled = ("the header's table and stack.c", mistabled(stack.said))
+    for name, wrong in (*constants_wrong(), *comments_wrong(), tabled):
         for what in wrong:
             print(f"failed: {name}: {what}")
         passed, failed = passed + (not wrong), failed + len(wrong)

@@ -50,20 +50,21 @@ UNREADABLE = [
 UNUSABLE = [([], "SHEET"), (["no such file"], "no '/'"), (["--port", "x", "--serve"], "--port"), (["-"], "no sheet")]
 
 # Names that would end the script that holds the data, or hide its end.
-NAMES = ["</script><script>document.title = 1</script>", "<!--<script>", "\u2028\u2029", 'a "name" & \\ more']
+NAMES = ["</script><script>document.title = 1</script>", "<!--<script>", 'a "name" & \\ more', "Höfe → 2"]
 
 
 # ---- what is right
 
 
 class Wait(NamedTuple):
-    """A waiting slab of a stalled yard: its c and d, through which of them its successor is in its way, and it."""
+    """A waiting slab of a stalled yard: c, d, through which of them its successor is in its way, it, and the loop."""
 
     slab: int
     c: int
     d: int
     through: int
     successor: int
+    standing: str
 
 
 class Shot(NamedTuple):
@@ -75,18 +76,14 @@ class Shot(NamedTuple):
     waits: list[Wait]
 
 
-def c_and_d(yard: Yard, goal: Yard, slab: int) -> Pair:
-    """The first slab in position, or the ground, down a slab's goal pile, and the slab that shall rest on it."""
-    c, d = goal[slab - 1], slab
-    while c != 0 and not reading.in_position(yard, goal, c):
-        c, d = goal[c - 1], c
-    return c, d
-
-
 def wait(yard: Yard, goal: Yard, slab: int) -> Wait:
     """What a slab of a stalled yard waits for."""
     through = reading.in_the_way(yard, goal, slab)
-    return Wait(slab, *c_and_d(yard, goal, slab), through, reading.top(yard, through))
+    loop = reading.visits(yard, goal, slab)[1]
+    another = set(loop) != set(reading.loop(yard, goal))
+    on, waiting = ("on another loop", "waits on another loop") if another else ("on the loop", "waits on it")
+    standing = on if slab in loop else waiting
+    return Wait(slab, *reading.foot(yard, goal, slab), through, reading.top(yard, through), standing)
 
 
 def shot(yard: Yard, goal: Yard) -> Shot:
@@ -113,13 +110,8 @@ def shots(method: int, now: Yard, goal: Yard) -> list[Shot]:
     return found
 
 
-def floor(now: Yard, goal: Yard) -> int:
-    """The misplaced slabs, and one for a deadlock."""
-    return len(reading.misplaced(now, goal)) + reading.deadlocked(now, goal)
-
-
 def misreasoned(reason: str, method: int, lift: Pair, before: Shot, after: Shot) -> str:
-    """What is wrong with the reason of a lift."""
+    """What is wrong with the reason of a lift; that of a slab that is not on the loop is held by commands.py."""
     slab, _ = lift
     if slab not in after.misplaced:
         return unlike(reason, "home")
@@ -172,7 +164,7 @@ def mislisted(told: Data, method: int, now: Yard, goal: Yard) -> str:
     pairs, right = listed(method, now, goal), shots(method, now, goal)
     counts = {str(m): len(listed(m, now, goal)) for m in METHODS}
     ring = [list(pair) for pair in reading.deadlock(now, goal, reading.deadlock_space(len(now)))[3]]
-    numbers = [len(pairs), reading.changed(now, goal), right[0].misplaced, floor(now, goal), counts, ring]
+    numbers = [len(pairs), reading.changed(now, goal), right[0].misplaced, reading.floor(now, goal), counts, ring]
     found = [told.get(key) for key in ("count", "changed", "misplaced", "floor", "counts", "deadlock")]
     if wrong := unlike(found, numbers):
         return wrong

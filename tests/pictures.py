@@ -1,8 +1,9 @@
 """Holds the pictures of tools/draw to the reading, by what lies where in the SVG.
 
-Each frame: what rests on what, who is misplaced, just lifted or on the ring, the arrows of a stalled yard with both
-their ends and what they pass, and the caption. The goal once, the heading's counts, the legend. The ring and the loop.
-Lists that are not legal or do not arrive, what is refused or cannot be read, and where sheets and lists come from.
+Each frame: what rests on what, who is misplaced, just lifted or on the loop, the arrows of a stalled yard with both
+their ends and what they pass, and the caption. The goal once, the heading, every sentence below, the legend. The ring
+and the loop. Lists that are not legal or do not arrive, what is refused or cannot be read, and where sheets and lists
+come from.
 """
 
 import itertools
@@ -24,6 +25,8 @@ import sheets
 from case import planning, read, testing
 from commands import run
 from reading import METHODS, MOST, Pair, Yard
+from said import counted as number_of
+from said import from_lowest, numbered, replayed, right_cost, right_verdict, ring_words
 from tested import ROOT, Ended, Test, counted, lacking, list_line, misended, sheet_line, unlike
 
 DRAWN = 15
@@ -31,14 +34,25 @@ NAMES = {1: "US", 2: "GN1", 3: "GN2"}
 FIVE = [0, 1, 0, 3, 4, 0, 6, 0, 8, 0], [7, 0, 0, 3, 10, 0, 8, 0, 6, 0]
 WAITS = [6, 3, 0, 5, 0, 0], [2, 5, 0, 3, 0, 0]
 S4 = [2, 0, 4, 0], [4, 0, 2, 0]
+TWO_LOOPS = [0, 4, 5, 0, 0, 0, 0, 9, 0, 11, 0], [8, 5, 4, 0, 0, 0, 0, 11, 0, 9, 0]
 
-# Document 01, "What is lent and written": what the notice says of a bad lift.
-VERDICTS = {
-    1: "the slab is not in 1 to n or the destination is above n",
-    2: "the slab is not clear",
-    3: "it already rests there",
-    4: "the destination is the slab itself or a slab that is not clear",
-    5: "all lifts are legal and the end differs from the goal",
+# So many lines of a long sheet are shown, so many sentences about slabs, and the labels of so many slabs that wait.
+SHEET_LINES, SENTENCES, LABELLED = 8, 60, 12
+
+# What each sign of the legend means: the looks of slabs, the kinds of arrows, the arrow to another row, and labels.
+MEANINGS = {
+    "right": "in position",
+    "misplaced": "misplaced",
+    "loop": "on the loop, misplaced",
+    "ring": "in the ring, misplaced",
+    "lifted": "just lifted",
+    "between": "what stands above it is in the way",
+    "wished": "goal",
+    "arrow waits": "waits for",
+    "arrow loop": "waits for, on the loop",
+    "arrow ring": "the next in the ring, in its way",
+    "arrow": "to 17, in another row",
+    "names": "c and d of slab n",
 }
 
 Point = tuple[float, float]
@@ -53,6 +67,10 @@ class Box(NamedTuple):
     bottom: float
 
 
+# Where the arrow of a slab goes, and its kind.
+Arrows = dict[int, tuple[int, str]]
+
+
 class Seen(NamedTuple):
     """A frame as it lies there: its left side, what each slab rests on, its looks and place, and what else it has."""
 
@@ -60,9 +78,10 @@ class Seen(NamedTuple):
     rests: dict[int, int]
     looks: dict[int, set[str]]
     places: dict[int, Box]
-    arrows: dict[int, tuple[int, bool]]
+    arrows: Arrows
     caption: str
     labels: dict[int, list[str]]
+    short: bool
     wrong: str
 
 
@@ -71,8 +90,9 @@ class Right(NamedTuple):
 
     rests: dict[int, int]
     looks: dict[int, set[str]]
-    arrows: dict[int, tuple[int, bool]]
+    arrows: Arrows
     caption: str
+    labels: dict[int, list[str]]
 
 
 # ---- what lies where
@@ -161,7 +181,12 @@ def supports(places: dict[int, Box], grounds: Sequence[Box]) -> dict[int, int]:
     return found
 
 
-def misdrawn(arrow: ET.Element, x: float, y: float, places: dict[int, Box]) -> str:
+def row_of(place: Box, grounds: Sequence[Box]) -> float:
+    """The height of the ground that a slab's pile stands on."""
+    return min((ground.top for ground in grounds if ground.top >= place.bottom), default=math.inf)
+
+
+def misdrawn(arrow: ET.Element, x: float, y: float, places: dict[int, Box], grounds: Sequence[Box]) -> str:
     """What is wrong with an arrow: where it leaves, where it comes, and what it passes through."""
     line, head = (child for child in arrow if tag(child) == "path")
     here, to = int(arrow.get("data-from", "0")), int(arrow.get("data-to", "0"))
@@ -169,19 +194,27 @@ def misdrawn(arrow: ET.Element, x: float, y: float, places: dict[int, Box]) -> s
     number = [words(child) for child in arrow if tag(child) == "text"]
     if not touches(way[0], places[here]):
         return f"arrow {here} to {to} leaves at {way[0]}"
-    if number and number != [str(to)]:
-        return f"the short arrow of {here} goes to {number}, not to {to}"
+    if number != ([] if row_of(places[here], grounds) == row_of(places[to], grounds) else [str(to)]):
+        return f"the arrow of {here} has the number {number} and goes to {to}"
     if not number and not (touches(tip, places[to]) and math.dist(way[-1], tip) < 10):
         return f"arrow {here} to {to} ends at {way[-1]} with its head at {tip}"
     met = {slab for slab, place in places.items() for point in way if inside(point, place)}
     return f"arrow {here} to {to} passes through {sorted(met)}" if met else ""
 
 
+def ground_labels(named: Sequence[str]) -> tuple[dict[int, list[str]], list[str]]:
+    """What stands beside the word ground, the same in each row of piles, and what is wrong with it."""
+    beside = {tuple(name.removeprefix("ground (0)").split()) for name in named if name.startswith("ground (0)")}
+    wrong = [] if len(beside) == 1 and all(name.startswith("ground (0)") for name in named) else [f"grounds {named}"]
+    return {0: list(names) for names in beside if names}, wrong
+
+
 def seen(frame: ET.Element, x: float, y: float) -> Seen:
     """A frame of a picture."""
     every = list(all_in(frame, x, y))
-    places, looks, arrows, labels, wrong = {}, {}, {}, {}, []
-    grounds = []
+    places, looks, arrows, grounds = {}, {}, {}, []
+    named = [words(element) for element, _, _ in every if "earth" in kinds(element)]
+    labels, wrong = ground_labels(named)
     for element, dx, dy in every:
         if "slab" in kinds(element):
             slab = int(element.get("data-slab", "0"))
@@ -192,17 +225,19 @@ def seen(frame: ET.Element, x: float, y: float) -> Seen:
             grounds.append(Box(dx + one, dy, dx + other, dy))
     for element, dx, dy in every:
         if "arrow" in kinds(element):
-            arrows[int(element.get("data-from", "0"))] = (int(element.get("data-to", "0")), "on" in kinds(element))
-            wrong += filter(None, [misdrawn(element, dx, dy, places)])
+            kind = " ".join(sorted(kinds(element) - {"arrow"}))
+            arrows[int(element.get("data-from", "0"))] = (int(element.get("data-to", "0")), kind)
+            wrong += filter(None, [misdrawn(element, dx, dy, places, grounds)])
         elif "label" in kinds(element):
             at = (dx + float(element.get("x", "0")), dy + float(element.get("y", "0")))
             beside = min(places, key=lambda slab: math.dist(at, places[slab][2:]))
             labels[beside] = words(element).split()
-    named = [words(element) for element, _, _ in every if "earth" in kinds(element)]
-    wrong += [] if len(named) == len(grounds) and all("ground" in name for name in named) else ["no word ground"]
+    wrong += [] if len(named) == len(grounds) else ["no word ground"]
     wrong += [f"{a} and {b} overlap" for a, b in itertools.combinations(places, 2) if overlap(places[a], places[b])]
     caption = next(words(element) for element, _, _ in every if "caption" in kinds(element))
-    return Seen(every[0][1], supports(places, grounds), looks, places, arrows, caption, labels, "; ".join(wrong))
+    short = any("target" in kinds(element) for element, _, _ in every)
+    rests = supports(places, grounds)
+    return Seen(every[0][1], rests, looks, places, arrows, caption, labels, short, "; ".join(wrong))
 
 
 class Picture:
@@ -227,6 +262,31 @@ class Picture:
     def said(self, kind: str) -> list[str]:
         """The words of one kind."""
         return [words(element) for element, _, _ in self.every if kind in kinds(element)]
+
+    def legend(self) -> dict[str, str]:
+        """What each sign is said to mean; the sign must look like what it stands for."""
+        found = {}
+        for sign, meaning in (element for element, _, _ in self.every if "sign" in kinds(element)):
+            name = sign.get("data-sign", "")
+            found[name if set(name.split()) <= kinds(sign) else f"{name}, drawn as {kinds(sign)}"] = words(meaning)
+        return found
+
+    def mislaid(self) -> str:
+        """What does not lie in the picture, and words that lie over others or over a slab."""
+        return self.outside() or self.covered()
+
+    def covered(self) -> str:
+        """Words that lie over others or over a slab, a letter taken for 5 wide and 9 high."""
+        said, slabs = [], [place for frame in self.frames.values() for place in frame.places.values()]
+        for element, x, y in self.every:
+            if tag(element) == "text" and element.get("class"):
+                wide = 5 * len(words(element))
+                left = x + float(element.get("x", "0")) - (wide / 2 if "target" in kinds(element) else 0)
+                foot = y + float(element.get("y", "0"))
+                said.append((Box(left, foot - 9, left + wide, foot), words(element)))
+        over = [f"{b} over {a}" for (one, a), (other, b) in itertools.combinations(said, 2) if overlap(one, other)]
+        over += [f"{name} over a slab" for place, name in said for slab in slabs if overlap(place, slab)]
+        return "; ".join(over)
 
     def outside(self) -> str:
         """What does not lie in the picture, a letter taken for 5 wide."""
@@ -264,11 +324,16 @@ def waiters(yard: Yard, goal: Yard) -> list[int]:
     return [slab for slab in astray if reading.clear(yard, slab)] if is_stalled(yard, goal) else []
 
 
-def right_arrows(yard: Yard, goal: Yard) -> dict[int, tuple[int, bool]]:
+def loop_of(yard: Yard, goal: Yard) -> list[int]:
+    """The loop of a stalled yard from its lowest number onward; none of another."""
+    return from_lowest(reading.loop(yard, goal)) if is_stalled(yard, goal) else []
+
+
+def right_arrows(yard: Yard, goal: Yard) -> Arrows:
     """For each that waits its successor, and whether it is on the loop."""
-    found = waiters(yard, goal)
-    loop = reading.loop(yard, goal) if found else []
-    return {slab: (reading.top(yard, reading.in_the_way(yard, goal, slab)), slab in loop) for slab in found}
+    found, loop = waiters(yard, goal), loop_of(yard, goal)
+    after = {slab: reading.top(yard, reading.in_the_way(yard, goal, slab)) for slab in found}
+    return {slab: (after[slab], "loop" if slab in loop else "waits") for slab in found}
 
 
 def right_frame(yard: Yard, goal: Yard, caption: str, slab: int) -> Right:
@@ -276,9 +341,9 @@ def right_frame(yard: Yard, goal: Yard, caption: str, slab: int) -> Right:
     arrows, looks = right_arrows(yard, goal), {}
     for one in reading.slabs(yard):
         looks[one] = {"right" if reading.in_position(yard, goal, one) else "misplaced"}
-        looks[one] |= {"ring"} if arrows.get(one, (0, False))[1] else set()
+        looks[one] |= {"loop"} if arrows.get(one, (0, ""))[1] == "loop" else set()
         looks[one] |= {"lifted"} if one == slab else set()
-    return Right(dict(enumerate(yard, 1)), looks, arrows, caption)
+    return Right(dict(enumerate(yard, 1)), looks, arrows, caption, {})
 
 
 def right_frames(now: Yard, goal: Yard, pairs: Sequence[Pair]) -> dict[str, Right]:
@@ -289,34 +354,27 @@ def right_frames(now: Yard, goal: Yard, pairs: Sequence[Pair]) -> dict[str, Righ
         how = "home" if reading.in_position(yard, goal, slab) else "moved" if place else "put down"
         found[str(number)] = right_frame(yard, goal, f"{number}. {slab}→{place}  {how}", slab)
     wished = {slab: {"wished"} for slab in reading.slabs(goal)}
-    return {**found, "goal": Right(dict(enumerate(goal, 1)), wished, {}, "goal")}
-
-
-def floor(now: Yard, goal: Yard) -> int:
-    """The fewest lifts that the theorems leave open."""
-    return len(reading.misplaced(now, goal)) + reading.deadlocked(now, goal)
+    return {**found, "goal": Right(dict(enumerate(goal, 1)), wished, {}, "goal", {})}
 
 
 def lifts_in_words(number: int) -> str:
     """A number of lifts."""
-    return f"{number} lift" if number == 1 else f"{number} lifts"
+    return number_of(number, "lift", "lifts")
 
 
 def right_counts(now: Yard, goal: Yard, *before: str) -> str:
     """The line of counts, behind what is said of a list."""
-    some = [*before, f"{len(reading.misplaced(now, goal))} misplaced", f"at least {lifts_in_words(floor(now, goal))}"]
-    return ", ".join(some)
+    floor = f"at least {lifts_in_words(reading.floor(now, goal))}"
+    return ", ".join([*before, f"{len(reading.misplaced(now, goal))} misplaced", floor])
 
 
-def right_legend(frames: Sequence[Right]) -> set[str]:
-    """The words of the legend that some frames need."""
-    looks = [look for frame in frames for look in frame.looks.values()]
-    every = set().union(*looks)
-    arrows = {on for frame in frames for _, on in frame.arrows.values()}
-    needed = {"right": "in position", "ring": "on the ring, misplaced", "lifted": "just lifted", "wished": "goal"}
-    found = {meaning for look, meaning in needed.items() if look in every}
-    found |= {"misplaced"} if any("misplaced" in look and "ring" not in look for look in looks) else set()
-    return found | {"waits for, on the ring" if on else "waits for" for on in arrows}
+def right_legend(frames: Sequence[Right], short: bool) -> dict[str, str]:
+    """The signs that some frames need with what they mean; beside them whether an arrow goes to another row."""
+    looks = [look - ({"misplaced"} if look & {"loop", "ring"} else set()) for f in frames for look in f.looks.values()]
+    needed = set().union(*looks) | {f"arrow {kind}" for frame in frames for _, kind in frame.arrows.values()}
+    needed |= {"arrow"} if short else set()
+    needed |= {"names"} if any(frame.labels for frame in frames) else set()
+    return {sign: MEANINGS[sign] for sign in needed}
 
 
 # ---- the two against each other
@@ -327,10 +385,34 @@ def unlike_frames(found: dict[str, Seen], right: dict[str, Right]) -> str:
     if set(found) != set(right):
         return f"frames {sorted(found)} where {sorted(right)} are right"
     for key, frame in found.items():
-        wrong = frame.wrong or unlike(Right(frame.rests, frame.looks, frame.arrows, frame.caption), right[key])
+        drawn = Right(frame.rests, frame.looks, frame.arrows, frame.caption, frame.labels)
+        wrong = frame.wrong or unlike(drawn, right[key])
         if wrong:
             return f"frame {key}: {wrong}"
     return ""
+
+
+def mistitled(picture: Picture, line: str) -> str:
+    """What is wrong with the sheet in the heading: it is whole, or as much of it as so many lines hold."""
+    lines = picture.said("title")
+    said = " ".join(lines)
+    if said == line:
+        return "" if len(lines) <= SHEET_LINES else f"the sheet takes {len(lines)} lines"
+    cut = said.endswith(" …") and line.startswith(said.removesuffix(" …"))
+    return "" if cut and len(lines) == SHEET_LINES else f"{len(lines)} lines of heading: {said} for {line}"
+
+
+def misshown(picture: Picture, right: dict[str, Right], title: str, counts: str, sentences: Sequence[str]) -> str:
+    """What is wrong with a picture: its frames, its heading, all that is said below, the legend, and where it lies."""
+    short = any(frame.short for frame in picture.frames.values())
+    return (
+        unlike_frames(picture.frames, right)
+        or mistitled(picture, title)
+        or unlike(" ".join(picture.said("counts")), counts)
+        or unlike(" ".join(picture.said("words")), " ".join(sentences))
+        or unlike(picture.legend(), right_legend(list(right.values()), short))
+        or picture.mislaid()
+    )
 
 
 def drawing(*command: str, given: str = "") -> Ended:
@@ -345,14 +427,9 @@ def misdrawn_list(now: Yard, goal: Yard, method: int, pairs: Sequence[Pair], end
     picture, right = Picture(ended.stdout), right_frames(now, goal, pairs)
     said = [f"method {method} ({NAMES[method]})"] if method else []
     keys = [str(number) for number in range(len(pairs) + 1)]
-    return (
-        unlike_frames(picture.frames, right)
-        or unlike(picture.keys, [keys[0], "goal", *keys[1:]])
-        or unlike(" ".join(picture.said("title")), sheet_line(now, goal))
-        or unlike(" ".join(picture.said("counts")), right_counts(now, goal, *said, lifts_in_words(len(pairs))))
-        or unlike(sorted(picture.said("meaning")), sorted(right_legend(list(right.values()))))
-        or picture.outside()
-    )
+    counts = right_counts(now, goal, *said, lifts_in_words(len(pairs)))
+    wrong = misshown(picture, right, sheet_line(now, goal), counts, [])
+    return wrong or unlike(picture.keys, [keys[0], "goal", *keys[1:]])
 
 
 # ---- sheets and lists
@@ -362,7 +439,7 @@ def some_sheets() -> list[tuple[Yard, Yard]]:
     """The sheets of document 01, those that tell readings apart, and random ones."""
     rng = random.Random(sheets.SEED)
     made = [sheets.random_sheet(rng, 3 + k % 11, k % 3) for k in range(DRAWN)]
-    return [*sheets.STATED, *sheets.TRIALS, FIVE, WAITS, *made]
+    return [*sheets.STATED, *sheets.TRIALS, FIVE, WAITS, TWO_LOOPS, *made]
 
 
 def lists() -> Iterator[Test]:
@@ -381,10 +458,9 @@ def plain() -> Iterator[Test]:
     """A sheet alone: the yard now and the goal, side by side."""
     for now, goal in (*sheets.STATED, FIVE, WAITS):
         ended = drawing(sheet_line(now, goal))
-        picture, right = Picture(ended.stdout), right_frames(now, goal, [])
-        wrong = unlike_frames(picture.frames, right) or unlike(picture.said("counts"), [right_counts(now, goal)])
-        wrong = wrong or picture.outside() or unlike(ended.returncode, 0)
-        yield f"tools/draw, {sheet_line(now, goal)}", wrong
+        picture, line = Picture(ended.stdout), sheet_line(now, goal)
+        wrong = misshown(picture, right_frames(now, goal, []), line, right_counts(now, goal), [])
+        yield f"tools/draw, {line}", wrong or unlike(ended.returncode, 0)
 
 
 def columns(frame: Seen) -> dict[int, float]:
@@ -393,15 +469,18 @@ def columns(frame: Seen) -> dict[int, float]:
 
 
 def piles_stay() -> Iterator[Test]:
-    """A pile whose foot stays on the ground stays where it is in the next frame."""
+    """A pile whose foot stays on the ground stays where it is in the next frame, also where a frame is drawn alone."""
     rng = random.Random(sheets.SEED)
     for number in range(3):
-        now, goal = sheets.random_sheet(rng, 12, number)
-        picture = Picture(drawing("--method", "1", sheet_line(now, goal)).stdout)
+        line = sheet_line(*sheets.random_sheet(rng, 12, number))
+        picture = Picture(drawing("--method", "1", line).stdout)
         feet = [columns(picture.frames[key]) for key in picture.keys if key != "goal"]
         each = itertools.pairwise(feet)
         wrong = [slab for one, other in each for slab in one if other.get(slab, one[slab]) != one[slab]]
-        yield f"tools/draw, piles stay: {sheet_line(now, goal)}", f"{wrong} do not" if wrong else ""
+        yield f"tools/draw, piles stay: {line}", f"{wrong} do not" if wrong else ""
+        alone = Picture(drawing("--method", "1", "--frames", "8", line).stdout)
+        wrong = unlike([columns(alone.frames[key]) for key in alone.keys if key == "8"], feet[8:9])
+        yield f"tools/draw, piles of one frame: {line}", wrong
 
 
 def some_frames() -> Iterator[Test]:
@@ -443,19 +522,18 @@ def bad_lists() -> Iterator[Test]:
     now = [0, 1, 0]
     for slab, place in [(0, 0), (4, 0), (2, 4), (1, 0), (1, 3), (2, 1), (3, 0), (2, 2), (3, 1), (2, 0), (2, 3), (3, 2)]:
         pairs = [(2, 3), (2, 1), (slab, place)]
-        _, verdict, where = reading.replay(now, now, [number for pair in pairs for number in pair])
+        _, verdict, where = replayed(now, now, pairs)
         ended = drawing(sheet_line(now, now), f"2→3 2→1 {slab}->{place}")
         picture = Picture(ended.stdout)
         legal = pairs if verdict in (0, 5) else pairs[: where - 1]
         wrong = unlike_frames(picture.frames, right_frames(now, now, legal))
-        notice = " ".join(picture.said("strong"))
-        start = f"lift {where}, {slab}→{place}: {VERDICTS[verdict]}" if 1 <= verdict <= 4 else VERDICTS[5]
-        wrong = wrong or (lacking(notice, [start]) if verdict else unlike(notice, ""))
-        wrong = wrong or unlike(ended.returncode, 1 if verdict else 0) or picture.outside()
+        notice = right_verdict(now, now, pairs) if verdict else ""
+        wrong = wrong or unlike(" ".join(picture.said("strong")), notice)
+        wrong = wrong or unlike(ended.returncode, 1 if verdict else 0) or picture.mislaid()
         yield f"tools/draw, a list that ends with {slab}→{place}", wrong
     ended = drawing(sheet_line(*S4), "")
     picture = Picture(ended.stdout)
-    wrong = unlike(ended.returncode, 1) or lacking(" ".join(picture.said("strong")), [VERDICTS[5], "slab 1 rests on 2"])
+    wrong = unlike(ended.returncode, 1) or unlike(" ".join(picture.said("strong")), right_verdict(*S4, []))
     yield "tools/draw, the list of no lifts", wrong
 
 
@@ -479,7 +557,8 @@ UNREADABLE = [
     (["--ring", "--frames", "0", "2 0 / 0 1"], "", ["--frames is for the frames of a list"]),
     (["-"], "2 0 / 0 1\n0 / 0\n", ["2 sheets in standard input", "one is drawn at a time"]),
     (["-"], "# nothing\n", ["no sheet in standard input"]),
-    (["nowhere.txt"], "", ["no '/'", "there is no file nowhere.txt"]),
+    (["-", "-"], "2 0 / 0 1\n", ["can be read once"]),
+    (["nowhere.txt"], "", ["no '/'", "nowhere.txt is no file"]),
 ]
 
 
@@ -508,7 +587,7 @@ def undrawn() -> Iterator[Test]:
 
 
 def sources() -> Iterator[Test]:
-    """What tools/sheet prints, in words and as JSON; a file; a name with letters that XML keeps for itself."""
+    """What tools/sheet prints, in words and as JSON; a file; names with letters that XML or a locale does not take."""
     for number, (now, goal) in enumerate([S4, FIVE, ([0, 0], [0, 0])]):
         method = METHODS[number % 3]
         pairs = read(planning(method, now, goal)).pairs
@@ -521,15 +600,20 @@ def sources() -> Iterator[Test]:
     printed = run(["sheet", "plan", "2", sheet_line(*S4)]).stdout
     ended = drawing("--method", "2", "-", given=printed)
     yield "tools/draw --method with a list beside the sheet", misended(ended, 2, ["one of them is drawn"])
-    name = "a<b> & 'c' \"d\" \x01"
+    name = "a<b> & 'c' \"d\" é→"
     line = f"{name}: {sheet_line(*S4)}"
     with tempfile.TemporaryDirectory() as folder:
         file = Path(folder) / "sheet.txt"
         file.write_text(f"# a remark\n{line}\n", encoding="utf-8")
         for what, command in (("typed", [line]), ("in a file", [str(file)])):
             picture = Picture(drawing(*command).stdout)
-            wrong = unlike(" ".join(picture.said("title")), line.replace("\x01", "\ufffd"))
-            yield f"tools/draw, a name {what}", wrong
+            yield f"tools/draw, a name {what}", mistitled(picture, line)
+    plain_letters = {"LC_ALL": "C", "PYTHONUTF8": "0", "PYTHONCOERCECLOCALE": "0"}
+    ended = run(["draw", line, "1→0, 3→2, 1→4"], **plain_letters)
+    wrong = misended(ended, 0) or mistitled(Picture(ended.stdout), line)
+    yield "tools/draw, letters where the locale has none", wrong
+    ended = run(["draw", "--help"], **plain_letters)
+    yield "tools/draw --help", misended(ended, 0, ["usage: tools/draw", "1→0, 2→1"])
 
 
 def same_again() -> Iterator[Test]:
@@ -546,52 +630,36 @@ def same_again() -> Iterator[Test]:
 # ---- the ring and the loop
 
 
-def right_links(pairs: Sequence[Pair]) -> list[str]:
-    """What is said of each slab of a deadlock."""
-    if len(pairs) == 1:
-        return [f"{pairs[0][0]} above {pairs[0][1]} now and in the goal"]
-    return [
-        f"{slab} shall stand above {through}, and {after} stands above {through} now"
-        for (slab, through), (after, _) in zip(pairs, [*pairs[1:], pairs[0]])
-    ]
+def right_some(sentences: Sequence[str]) -> list[str]:
+    """Sentences, the last ones counted where they are many."""
+    rest = [f"and {len(sentences) - SENTENCES} more"] if len(sentences) > SENTENCES else []
+    return [*sentences[:SENTENCES], *rest]
 
 
 def misdrawn_ring(now: Yard, goal: Yard) -> str:
     """What is wrong with the picture of a deadlock, or of none."""
-    ended = drawing("--ring", sheet_line(now, goal))
+    ended, line = drawing("--ring", sheet_line(now, goal)), sheet_line(now, goal)
     picture, pairs = Picture(ended.stdout), read(testing(now, goal)).pairs
     ring, between = {slab for slab, _ in pairs}, {through for _, through in pairs}
     right = right_frames(now, goal, [])
-    arrows = {slab: (after, True) for (slab, _), (after, _) in zip(pairs, [*pairs[1:], *pairs[:1]])}
+    arrows = {slab: (after, "ring") for (slab, _), (after, _) in zip(pairs, [*pairs[1:], *pairs[:1]])}
     for key, frame in right.items():
         for slab, look in frame.looks.items():
-            look.discard("ring")
+            look.discard("loop")
             look.update(name for name, some in (("ring", ring), ("between", between)) if slab in some)
         right[key] = frame._replace(arrows=arrows if key == "0" else {})
-    said = f"{len(pairs)} {'slab' if len(pairs) == 1 else 'slabs'} deadlocked" if pairs else "no deadlock"
-    lines = right_links(pairs) if pairs else ["no deadlock"]
-    return (
-        unlike_frames(picture.frames, right)
-        or unlike(picture.said("counts"), [right_counts(now, goal, said)])
-        or unlike([line for line in lines if line not in " ".join(picture.said("words"))], [])
-        or picture.outside()
-        or unlike(ended.returncode, 0)
-    )
-
-
-def c_and_d(yard: Yard, goal: Yard, slab: int) -> Pair:
-    """The slabs c and d of a slab that waits."""
-    d, c = slab, goal[slab - 1]
-    while c != 0 and not reading.in_position(yard, goal, c):
-        c, d = goal[c - 1], c
-    return c, d
+    size = "one slab" if len(pairs) == 1 else f"{len(pairs)} slabs"
+    counts = right_counts(now, goal, f"a ring of {size}" if pairs else "no deadlock")
+    cost = right_cost(now, goal) if reading.misplaced(now, goal) else "nothing is misplaced"
+    sentences = [*(right_some(ring_words(now, goal)) if pairs else ["no deadlock"]), cost]
+    return misshown(picture, right, line, counts, sentences) or unlike(ended.returncode, 0)
 
 
 def right_waits(yard: Yard, goal: Yard) -> list[str]:
     """What is said of each slab that waits."""
     found = []
     for slab in waiters(yard, goal):
-        c, d = c_and_d(yard, goal, slab)
+        c, d = reading.foot(yard, goal, slab)
         through = reading.in_the_way(yard, goal, slab)
         after = reading.top(yard, through)
         itself = " itself" if after == slab else ""
@@ -600,45 +668,71 @@ def right_waits(yard: Yard, goal: Yard) -> list[str]:
 
 
 def right_labels(yard: Yard, goal: Yard) -> dict[int, list[str]]:
-    """The names c and d beside the slabs that have them, at most three a slab."""
+    """The names c and d beside the slabs that have them and beside the ground, at most three; none of many slabs."""
     below = str.maketrans("0123456789", "₀₁₂₃₄₅₆₇₈₉")
     found: dict[int, list[str]] = {}
-    for slab in waiters(yard, goal):
-        for letter, one in zip("cd", c_and_d(yard, goal, slab)):
+    some = waiters(yard, goal)
+    for slab in some if len(some) <= LABELLED else []:
+        for letter, one in zip("cd", reading.foot(yard, goal, slab)):
             found.setdefault(one, []).append(letter + str(slab).translate(below))
-    return {one: [*names[:3], *["…"] * (len(names) > 3)] for one, names in found.items() if one}
+    return {one: [*names[:3], *["…"] * (len(names) > 3)] for one, names in found.items()}
+
+
+def right_standing(yard: Yard, goal: Yard) -> str:
+    """Who is on the loop, and how the others stand to it by where their successors lead."""
+    loop, groups = loop_of(yard, goal), {}
+    for slab in waiters(yard, goal):
+        leads = from_lowest(reading.visits(yard, goal, slab)[1])
+        if slab not in loop:
+            slabs, loops = groups.setdefault((slab in leads, leads == loop), ([], set()))
+            slabs.append(slab)
+            loops.add(tuple(leads))
+    said = [f"the loop is {numbered(loop, ' and ')}"]
+    for (on, same), (slabs, loops) in groups.items():
+        verb = {(True, True): "is", (True, False): "are", (False, True): "waits", (False, False): "wait"}
+        where = "it" if same else "another loop" if len(loops) == 1 else "other loops"
+        said.append(f"{numbered(slabs, ' and ')} {verb[on, len(slabs) == 1]} on {where}")
+    return "; ".join(said)
+
+
+def built(now: Yard, goal: Yard) -> tuple[Yard, list[Pair]]:
+    """The yard after all constructive lifts, and these."""
+    yard, pairs = now, []
+    while slab := reading.constructive(yard, goal):
+        yard, pairs = reading.lifted(yard, slab, goal[slab - 1]), [*pairs, (slab, goal[slab - 1])]
+    return yard, pairs
+
+
+def right_loop_words(yard: Yard, goal: Yard, pairs: Sequence[Pair]) -> list[str]:
+    """What is said below the picture of a loop after some lifts."""
+    before = [number_of(len(pairs), "constructive lift", "constructive lifts")] if pairs else []
+    before = [f"{before[0]}: {list_line(pairs)}"] if 0 < len(pairs) <= SENTENCES else before
+    meant = "c: down the goal pile of a slab the first in position, or the ground; d: what rests on c in that pile"
+    return [*before, *right_some(right_waits(yard, goal)), right_standing(yard, goal), meant]
 
 
 def misdrawn_loop(now: Yard, goal: Yard) -> str:
     """What is wrong with the picture of a loop, or of none."""
-    ended = drawing("--loop", sheet_line(now, goal))
-    picture, yard, lifts = Picture(ended.stdout), now, 0
-    while slab := reading.constructive(yard, goal):
-        yard, lifts = reading.lifted(yard, slab, goal[slab - 1]), lifts + 1
-    said, right = " ".join(picture.said("words")), right_frames(now, goal, [])
+    ended, line, counts = drawing("--loop", sheet_line(now, goal)), sheet_line(now, goal), right_counts(now, goal)
+    picture, (yard, pairs), right = Picture(ended.stdout), built(now, goal), right_frames(now, goal, [])
     if not is_stalled(yard, goal):
-        return unlike_frames(picture.frames, right) or lacking(said, ["no loop"]) or unlike(ended.returncode, 0)
-    right = {**right, str(lifts): right_frame(yard, goal, f"stalled after {lifts_in_words(lifts)}", 0)}
-    if lifts == 0:
-        right["0"] = right["0"]._replace(caption="now, stalled")
-    else:
-        del right["0"]
-    labels = right_labels(yard, goal) if len(waiters(yard, goal)) <= 12 else {}
-    return (
-        unlike_frames(picture.frames, right)
-        or unlike([picture.frames[key].labels for key in picture.keys], [labels, labels])
-        or lacking(said, right_waits(yard, goal))
-        or picture.outside()
-        or unlike(ended.returncode, 0)
-    )
+        sentences = ["no loop: every lift of method 2 is constructive, and no yard stalls"]
+        return misshown(picture, right, line, counts, sentences) or unlike(ended.returncode, 0)
+    caption = f"stalled after {lifts_in_words(len(pairs))}" if pairs else "now, stalled"
+    frames = {str(len(pairs)): right_frame(yard, goal, caption, 0), "goal": right["goal"]}
+    frames = {key: frame._replace(labels=right_labels(yard, goal)) for key, frame in frames.items()}
+    sentences = right_loop_words(yard, goal, pairs)
+    return misshown(picture, frames, line, counts, sentences) or unlike(ended.returncode, 0)
 
 
 def rings_and_loops() -> Iterator[Test]:
     """--ring and --loop of sheets with a deadlock and without."""
     rng = random.Random(sheets.SEED)
-    some = [*sheets.STATED, *sheets.TRIALS, FIVE, WAITS]
+    some = [*sheets.STATED, *sheets.TRIALS, FIVE, WAITS, TWO_LOOPS]
     some += [sheets.random_sheet(rng, 6 + k, k % 3) for k in range(8)]
-    some += [sheets.renumbered(rng, *sheets.ring(9)[:2])]
+    some += [sheets.renumbered(rng, *sheets.ring(n)[:2]) for n in (9, 31, 135)]
+    some += [sheets.copies(*WAITS, n) for n in (12, 18, 90)] + [sheets.exchanged(12)[:2]]
+    some += [list(sheets.families(n))[-1] for n in (8, 72)]
     for now, goal in some:
         yield f"tools/draw --ring, {sheet_line(now, goal)}", misdrawn_ring(now, goal)
         yield f"tools/draw --loop, {sheet_line(now, goal)}", misdrawn_loop(now, goal)
@@ -648,7 +742,10 @@ def rings_and_loops() -> Iterator[Test]:
 
 
 def large() -> Iterator[Test]:
-    """A poster of 30 slabs and some 40 lifts has the shape of paper; 200 slabs lie in rows, and nothing overlaps."""
+    """A poster of 30 slabs and some 40 lifts has the shape of paper; 200 slabs lie in rows, and nothing overlaps.
+
+    The sheet of a narrow picture of one pile is cut in the heading.
+    """
     rng = random.Random(sheets.SEED)
     while True:
         now, goal = sheets.random_sheet(rng, 30, 0)
@@ -657,16 +754,21 @@ def large() -> Iterator[Test]:
             break
     ended = drawing("--method", "2", sheet_line(now, goal))
     picture = Picture(ended.stdout)
-    yield "tools/draw, a poster", unlike_frames(picture.frames, right_frames(now, goal, pairs)) or picture.outside()
+    yield "tools/draw, a poster", misdrawn_list(now, goal, 2, pairs, ended)
     shape = picture.wide / picture.high
     yield "tools/draw, the shape of a poster", "" if 1.15 < shape < 1.75 else f"{picture.wide} by {picture.high}"
     for kind in range(2):
         now, goal = sheets.random_sheet(rng, 200, kind)
         for command in ([], ["--loop"], ["--ring"], ["--method", "2", "--frames", "40-42"]):
             picture = Picture(drawing(*command, "-", given=sheet_line(now, goal)).stdout)
-            wrong = "; ".join(filter(None, (frame.wrong for frame in picture.frames.values()))) or picture.outside()
+            wrong = "; ".join(filter(None, (frame.wrong for frame in picture.frames.values()))) or picture.mislaid()
+            wrong = wrong or mistitled(picture, sheet_line(now, goal))
             wrong = wrong or ("" if picture.wide < 3500 else f"{picture.wide} wide")
             yield f"tools/draw {' '.join(command)}, 200 slabs", wrong
+    long = sheets.turned(120)[:2]
+    picture = Picture(drawing(sheet_line(*long)).stdout)
+    wrong = mistitled(picture, sheet_line(*long)) or picture.mislaid()
+    yield "tools/draw, a sheet in the heading", wrong or unlike(len(picture.said("title")), SHEET_LINES)
     yield "tools/draw, 200 slabs typed", misended(drawing(sheet_line(now, goal)), 0, ["</svg>"])
     whole = drawing("--method", "2", "-", given=sheet_line(now, goal)).stdout
     yield "tools/draw, the whole list of 200 slabs", "" if len(whole) < 10_000_000 else f"{len(whole)} bytes"

@@ -19,6 +19,15 @@ TOP = 65535
 METHODS = (1, 2, 3)
 NO_VERDICT = 65535
 
+# What the verdicts of replay say.
+VERDICTS = {
+    1: "the slab is not in 1 to n or the destination is above n",
+    2: "the slab is not clear",
+    3: "it already rests there",
+    4: "the destination is the slab itself or a slab that is not clear",
+    5: "all lifts are legal and the end differs from the goal",
+}
+
 
 def slabs(yard: Yard) -> range:
     """The numbers of the slabs, lowest first."""
@@ -124,24 +133,34 @@ def check(now: Yard, goal: Yard) -> tuple[int, int]:
     return 0, 0
 
 
-def in_the_way(now: Yard, goal: Yard, slab: int) -> int:
-    """The slab through which its successor is in a slab's way: c when c is not clear, else d."""
+def foot(now: Yard, goal: Yard, slab: int) -> Pair:
+    """c, the first slab in position down a slab's goal pile, or the ground, and d, what rests on c in that pile."""
     d = slab
     c = goal[slab - 1]
     while c != 0 and not in_position(now, goal, c):
         d = c
         c = goal[c - 1]
+    return c, d
+
+
+def in_the_way(now: Yard, goal: Yard, slab: int) -> int:
+    """The slab through which its successor is in a slab's way: c when c is not clear, else d."""
+    c, d = foot(now, goal, slab)
     return d if clear(now, c) else c
+
+
+def visits(now: Yard, goal: Yard, slab: int) -> tuple[list[int], list[int]]:
+    """The slabs met from one to its successor and on until one returns, and those of them from its first visit on."""
+    visited: list[int] = []
+    while slab not in visited:
+        visited.append(slab)
+        slab = top(now, in_the_way(now, goal, slab))
+    return visited, visited[visited.index(slab) :]
 
 
 def loop(now: Yard, goal: Yard) -> list[int]:
     """The loop of a stalled yard, from the slab that returns first onward."""
-    visited: list[int] = []
-    slab = next(s for s in misplaced(now, goal) if clear(now, s))
-    while slab not in visited:
-        visited.append(slab)
-        slab = top(now, in_the_way(now, goal, slab))
-    return visited[visited.index(slab) :]
+    return visits(now, goal, next(s for s in misplaced(now, goal) if clear(now, s)))[1]
 
 
 def method_us(now: Yard, goal: Yard) -> list[Pair]:
@@ -293,6 +312,11 @@ def deadlocked(now: Yard, goal: Yard) -> bool:
         if waits == left:
             return bool(left)
         left = waits
+
+
+def floor(now: Yard, goal: Yard) -> int:
+    """A number of lifts that no list that arrives goes below: the misplaced slabs, and one more for a deadlock."""
+    return len(misplaced(now, goal)) + deadlocked(now, goal)
 
 
 def ringed(now: Yard, goal: Yard) -> list[int]:

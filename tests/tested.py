@@ -8,20 +8,29 @@ from reading import Pair, Yard
 
 ROOT = Path(__file__).resolve().parent.parent
 
+# So much of what differs is shown from either end.
+SHOWN = 800
+
 # A test: what it holds, and what is wrong; empty when nothing is.
 Test = tuple[str, str]
 Ended = subprocess.CompletedProcess[str]
 
 
+def brief(what: object) -> str:
+    """Something as it is told, its middle left out where it is long."""
+    text = repr(what)
+    return text if len(text) <= 2 * SHOWN else f"{text[:SHOWN]} … {text[-SHOWN:]}"
+
+
 def unlike(found: object, right: object) -> str:
     """How what was found differs from what is right."""
-    return "" if found == right else f"{found!r} where {right!r} is right"
+    return "" if found == right else f"{brief(found)} where {brief(right)} is right"
 
 
 def lacking(text: str, parts: Sequence[str]) -> str:
     """The parts that a text does not have."""
     missing = [part for part in parts if part not in text]
-    return f"{missing} not in {text!r}" if missing else ""
+    return f"{missing} not in {brief(text)}" if missing else ""
 
 
 def misended(ended: Ended, status: int, parts: Sequence[str] = ()) -> str:

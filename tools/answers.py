@@ -25,7 +25,8 @@ def asked(command: str, sheet: Sheet) -> Answer:
 
 def refused(begun: Answer, sheet: Sheet, refusal: int, place: int) -> Answer:
     """A refusal: its number and place, and both in words."""
-    return {**begun, "refusal": refusal, "place": place, "words": refusal_in_words(begun, sheet, refusal, place)}
+    words = refusal_in_words(begun.get("method", 0), sheet, refusal, place)
+    return {**begun, "refusal": refusal, "place": place, "words": words}
 
 
 def step_of(method: int, step: Step) -> Answer:
@@ -125,10 +126,10 @@ def about_place(method: int, sheet: Sheet, number: int, place: int) -> str:
     return f"slab {place} is the lowest that does not; {where} the way down comes round: {way_down(yard, place)}"
 
 
-def refusal_in_words(begun: Answer, sheet: Sheet, number: int, place: int) -> str:
-    """The question that got a no, and what is wrong with the sheet."""
+def refusal_in_words(method: int, sheet: Sheet, number: int, place: int) -> str:
+    """The question that got a no, and what is wrong with the sheet or the method."""
     question = QUESTIONS[number].words if number in QUESTIONS else "No question of document 01 has this number."
-    about = about_place(begun.get("method", 0), sheet, number, place)
+    about = about_place(method, sheet, number, place)
     return question + (f" No: {about}." if about else " No.")
 
 

@@ -3,13 +3,14 @@
 A sheet may have a name, `S2: 2 0 / 0 1`. What tools/sheet prints of a plan, in words or as JSON, is read back here.
 """
 
+import itertools
 import json
 import os
 import re
 import sys
 from collections.abc import Iterator
 from pathlib import Path
-from typing import NamedTuple
+from typing import Any, NamedTuple
 
 from rules import TOP
 
@@ -17,7 +18,10 @@ WIDE = 40
 WORD = re.compile(r"[^\s,]+")
 LIFT = re.compile(r"([0-9]+)(?:→|->)([0-9]+)")
 NAME = re.compile(r"\s*([^:/]*?)\s*:")
-ROW = re.compile(r"(sheet|method|list): *(.*(?:\n +.*)*)")
+ROW = re.compile(r"^(sheet|method|list|refused): *(.*(?:\n +.*)*)", re.MULTILINE)
+BLOCK = re.compile(r"\n[ \t]*\n")
+PRINTED = re.compile(r"^(?:list|method|pairs|verdict|refused|accepted): ", re.MULTILINE)
+ONCE = "standard input, -, can be read once"
 
 # How a sheet is typed, for the help of every tool.
 FORM = (
@@ -102,7 +106,15 @@ def sheet_of(line: str) -> Sheet:
     if len(goal) > len(now):
         extra = list(WORD.finditer(line, slash + 1))[len(now)]
         raise at(line, extra.start(), f"slab {len(now) + 1} has no now entry: {len(now)} now, {len(goal)} in the goal")
-    return Sheet(now, goal, named[1] if named else "")
+    return Sheet(now, goal, name_of(named[1], line) if named else "")
+
+
+def name_of(name: str, line: str) -> str:
+    """A sheet's name, which must be such that it can be printed."""
+    for column, letter in enumerate(name, line.index(name)):
+        if not letter.isprintable():
+            raise at(line.replace(letter, "?"), column, f"the name has a character that cannot be shown, {letter!r}")
+    return name
 
 
 def lifts_of(line: str) -> list[Lift]:
@@ -127,71 +139,136 @@ def method_of(word: str) -> int:
 # ---- files, standard input, and what tools/sheet prints
 
 
+def field(told: dict[str, Any], name: str) -> int:
+    """A number of an object, which must be one that a record's field can hold."""
+    number = told[name]
+    if type(number) is not int or not 0 <= number <= TOP:
+        raise Fault(f"{name}, {number!r}, is not a number from 0 to {TOP}")
+    return number
+
+
+def listed_in(told: dict[str, Any]) -> list[Lift] | None:
+    """The list of an object: of a plan, of a replay, none for a refusal, None where there is none."""
+    if "lifts" in told:
+        return [(field(lift, "slab"), field(lift, "destination")) for lift in told["lifts"]]
+    return lifts_of(told["list"]) if "list" in told else [] if told.get("refusal") else None
+
+
 def from_json(text: str) -> Typed:
     """The sheet, method and list of an object that `tools/sheet --json` prints."""
     try:
         told = json.loads(text)
-        sheet = sheet_of(told["sheet"])._replace(name=told.get("name", ""))
-        lifts = lifts_of(told["list"]) if "list" in told else None
-        if "lifts" in told:
-            lifts = [(int(lift["slab"]), int(lift["destination"])) for lift in told["lifts"]]
-        return Typed(sheet, int(told.get("method", 0)), lifts)
-    except (ValueError, KeyError, TypeError, AttributeError) as error:
+        sheet, name = sheet_of(told["sheet"]), told.get("name", "")
+        method = field(told, "method") if "method" in told else 0
+        return Typed(sheet._replace(name=name_of(name, name)), method, listed_in(told))
+    except (ValueError, KeyError, TypeError, AttributeError, RecursionError) as error:
         raise Fault(f"this is not what `tools/sheet --json` prints: {text[:WIDE]} ({error!r})") from error
 
 
-def from_words(text: str) -> Typed:
+def from_words(block: str) -> Typed:
     """The sheet, method and list among the rows that tools/sheet prints."""
-    rows = {name: " ".join(words.split()) for name, words in ROW.findall(text)}
+    rows = {name: " ".join(words.split()) for name, words in ROW.findall(block)}
     method = method_of(rows["method"].split()[0]) if rows.get("method") else 0
-    listed = rows.get("list")
+    listed = "no lifts" if "refused" in rows else rows.get("list")
     lifts = None if listed is None else [] if listed == "no lifts" else lifts_of(listed)
     return Typed(sheet_of(rows["sheet"]), method, lifts)
 
 
+def is_printed(block: str) -> bool:
+    """Whether a block of lines is an answer that tools/sheet printed, and nothing else."""
+    if not (PRINTED.search(block) and re.search(r"^sheet: ", block, re.MULTILINE)):
+        return False
+    for line in block.splitlines():
+        if "/" in line and not line.startswith(("sheet:", " ")):
+            raise Fault(f"a sheet stands among what tools/sheet printed: {line[:WIDE]}")
+    return True
+
+
+def from_line(line: str) -> Typed | None:
+    """The sheet of a line; None where there is but a remark."""
+    if line.lstrip().startswith("{"):
+        return from_json(line)
+    content = line.partition("#")[0]
+    return Typed(sheet_of(content)) if content.strip() else None
+
+
 def from_text(text: str, source: str) -> Iterator[Typed]:
     """The sheets of a file or of standard input: one a line, or the answers that tools/sheet printed."""
-    if re.search(r"^sheet:", text, re.MULTILINE):
-        yield from (from_words(block) for block in re.split(r"\n\s*\n", text) if re.search(r"^sheet:", block, re.M))
-        return
-    for number, line in enumerate(text.splitlines(), 1):
-        content = line.partition("#")[0]
+    number = 1
+    for block in BLOCK.split(text):
         try:
-            if content.lstrip().startswith("{"):
-                yield from_json(line)
-            elif content.strip():
-                yield Typed(sheet_of(content))
+            if is_printed(block):
+                yield from_words(block)
+                number += block.count("\n")
+            else:
+                for line in block.split("\n"):
+                    if typed := from_line(line.rstrip("\r")):
+                        yield typed
+                    number += 1
+                number -= 1
         except Fault as fault:
             raise Fault(f"{source}, line {number}: {fault}") from fault
+        number += 2
 
 
 def read_text(word: str) -> str | None:
     """What `-` or the name of a file stands for; None for a word that is neither."""
     try:
         if word == "-":
-            return sys.stdin.buffer.read().decode("utf-8")
-        return Path(word).read_text(encoding="utf-8") if os.path.isfile(word) else None
+            if sys.stdin is None:
+                raise OSError("it is closed")
+            return sys.stdin.buffer.read().decode("utf-8-sig")
+        return Path(word).read_text(encoding="utf-8-sig") if os.path.isfile(word) else None
     except (OSError, UnicodeDecodeError) as error:
-        raise Fault(f"{'standard input' if word == '-' else word} cannot be read: {error}") from error
+        raise Fault(f"{source_of(word)} cannot be read: {error}") from error
+
+
+def source_of(word: str) -> str:
+    """How a word is called in a message."""
+    return "standard input" if word == "-" else word
 
 
 def all_typed(word: str) -> Iterator[Typed]:
-    """The sheets that a word of the command line stands for."""
+    """The sheets that a word of the command line stands for, one at least."""
     text = read_text(word)
-    if text is not None:
-        yield from from_text(text, "standard input" if word == "-" else word)
+    if text is None:
+        yield typed_here(word)
         return
+    some = False
+    for some, typed in enumerate(from_text(text, source_of(word)), 1):
+        yield typed
+    if not some:
+        raise Fault(f"there is no sheet in {source_of(word)}")
+
+
+def typed_here(word: str) -> Typed:
+    """The sheet of a word that names no file."""
     try:
-        yield Typed(sheet_of(word))
+        return Typed(sheet_of(word))
     except Fault as fault:
-        hint = "" if re.search(r"\s", word.strip()) else f"\n  (and there is no file {word})"
+        kind = "a folder" if os.path.isdir(word) else "no file"
+        hint = "" if re.search(r"\s", word.strip()) else f"\n  (and {word} is {kind})"
         raise Fault(f"{fault}{hint}") from fault
 
 
+def every_typed(words: list[str]) -> Iterator[Typed]:
+    """The sheets that the words of a command line stand for."""
+    if words.count("-") > 1:
+        raise Fault(ONCE)
+    return itertools.chain.from_iterable(map(all_typed, words))
+
+
 def all_lifts(word: str) -> list[Lift]:
-    """The list that a word of the command line stands for: a line, a file, or `-`."""
+    """The list that a word of the command line stands for: a line, or what a file or `-` holds, remarks left out."""
     text = read_text(word)
-    return lifts_of(word if text is None else text)
+    if text is None:
+        return lifts_of(word)
+    try:
+        if is_printed(text.strip()):
+            return from_words(text).lifts or []
+        return lifts_of("\n".join(line.partition("#")[0] for line in text.splitlines()))
+    except Fault as fault:
+        raise Fault(f"{source_of(word)}: {fault}") from fault
 
 
 # ---- lists as they are written

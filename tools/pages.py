@@ -10,7 +10,7 @@ from typing import Any
 from answers import Answer, deadlock, plan
 from lines import Fault, Sheet, counted
 from rules import METHODS
-from steps import Frame, deadlocked, frames, lift_in_words, listed, waits
+from steps import Frame, deadlocked, frames, led, lift_in_words, listed, standing, waits
 from topjeska import Library
 
 TEMPLATE = Path(__file__).resolve().parent / "page.html"
@@ -43,8 +43,9 @@ def sized(sheet: Sheet) -> Sheet:
 
 
 def stall(before: Frame, goal: list[int]) -> Shown:
-    """A stalled yard: its loop in words, and what each waiting slab waits for."""
-    return {"words": deadlocked(before.loop), "waits": waits(before, goal)}
+    """A stalled yard: its loop in words, what each waiting slab waits for, and how it stands to the loop."""
+    each = [(*one, standing(one.slab, led(before, goal, one.slab), before.loop)) for one in waits(before, goal)]
+    return {"words": deadlocked(before.loop), "waits": each}
 
 
 def answered(library: Library, method: int, sheet: Sheet) -> Answer:

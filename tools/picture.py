@@ -1,4 +1,4 @@
-"""Yards as SVG: piles on their ground, arrows between slabs, yards in a grid, and words around them.
+"""Yards as SVG: piles on their ground, yards in a grid, words around them, and what the signs mean.
 
 What is drawn and what is said comes from tools/draw. In a row of piles the ground is at 0, and up is negative.
 """
@@ -10,7 +10,9 @@ import textwrap
 from collections.abc import Iterator, Sequence
 from typing import NamedTuple
 
-HIGH, HEAD, EDGE, PAD = 20, 8, 16, 10
+from arrows import HIGH, Arrow, Measure, Spot, arrow_lines, brief, head, path, text
+
+EDGE, PAD = 16, 10
 CAPTION, GROUND, LINE = 26, 18, 18
 LETTER, LEAST = 7.3, 460
 
@@ -37,24 +39,32 @@ STYLE = """
   .right rect { fill: #d4d4d4 }
   .wished rect { fill: #fff }
   .misplaced rect { fill: #ffe4b3; stroke-dasharray: 4 2 }
-  .ring rect { fill: #f6b59c; stroke: #a00000; stroke-width: 2.6; stroke-dasharray: 7 2 }
+  .loop rect, .ring rect { fill: #f6b59c; stroke: #a00000; stroke-width: 2.6; stroke-dasharray: 7 2 }
   .wished.ring rect { fill: #fff }
-  .ring text { font-weight: bold }
+  .slab.loop text, .slab.ring text { font-weight: bold }
   .slab .mark { fill: none; stroke: #000; stroke-width: 1.4; stroke-dasharray: none }
   .arrow path { fill: none; stroke: #35506b; stroke-width: 1.2; stroke-dasharray: 4 3 }
   .arrow .head { fill: #35506b; stroke: none }
-  .arrow.on path { stroke: #a00000; stroke-width: 2.4; stroke-dasharray: none }
-  .arrow.on .head { fill: #a00000; stroke: none }
+  .arrow.loop path, .arrow.ring path { stroke: #a00000; stroke-width: 2.4; stroke-dasharray: none }
+  .arrow.loop .head, .arrow.ring .head { fill: #a00000; stroke: none }
   .notice rect { fill: #fff; stroke: #a00000; stroke-width: 3 }
 """
 
-
-class Arrow(NamedTuple):
-    """Slab and the slab it waits for; strong on the ring."""
-
-    slab: int
-    to: int
-    ring: bool
+# What the looks of slabs and the kinds of arrows mean.
+LOOKS = {
+    "right": "in position",
+    "misplaced": "misplaced",
+    "loop": "on the loop, misplaced",
+    "ring": "in the ring, misplaced",
+    "lifted": "just lifted",
+    "between": "what stands above it is in the way",
+    "wished": "goal",
+}
+ARROWS = {
+    "waits": "waits for",
+    "loop": "waits for, on the loop",
+    "ring": "the next in the ring, in its way",
+}
 
 
 class Cell(NamedTuple):
@@ -66,8 +76,8 @@ class Cell(NamedTuple):
     yard: Sequence[int]
     columns: dict[int, int]
     looks: dict[int, str]
-    arrows: Sequence[Arrow] = ()
-    labels: dict[int, str] = {}
+    arrows: Sequence[Arrow]
+    labels: dict[int, str]
 
 
 class Page(NamedTuple):
@@ -86,48 +96,12 @@ class Part(NamedTuple):
     height: float
 
 
-class Measure(NamedTuple):
-    """The width of a slab and of the gap beside it, how many piles stand abreast, and the width of a cell."""
-
-    wide: int
-    gap: int
-    abreast: int
-    across: int
-
-
-class Spot(NamedTuple):
-    """Where a slab is: its row of piles, its left and its upper edge, and whether it is clear."""
-
-    row: int
-    left: int
-    top: int
-    clear: bool
-
-
-class Port(NamedTuple):
-    """Where an arrow touches a slab: its upright part's x, the height, and the edge where it comes from the side."""
-
-    x: float
-    y: float
-    edge: float | None
-
-
 # ---- words
 
 
 def safe(words: str) -> str:
     """Words as XML takes them."""
     return html.escape("".join(c if c.isprintable() else "\ufffd" for c in words), quote=False)
-
-
-def text(x: float, y: float, words: str, kind: str) -> str:
-    """Words at a place; they must be safe."""
-    return f'<text class="{kind}" x="{brief(x)}" y="{brief(y)}">{words}</text>'
-
-
-def brief(number: float) -> str:
-    """A number as short as it can be."""
-    return f"{number:.1f}".removesuffix(".0")
 
 
 def wrapped(words: str, width: float) -> list[str]:
@@ -175,131 +149,6 @@ def spots(cell: Cell, sizes: Measure) -> dict[int, Spot]:
     return found
 
 
-# ---- arrows
-
-
-def far(start: Spot, end: Spot) -> float:
-    """How far an arrow goes; of two between the same slabs the one to the left goes farther, around the other."""
-    return abs(end.left - start.left) + (1 if end.left < start.left else 0)
-
-
-def order(arrow: Arrow, slab: int, at: dict[int, Spot]) -> tuple[int, float]:
-    """Where an end of an arrow comes among those of its slab, from the left: what goes far stands in the middle."""
-    start, end = at[arrow.slab], at[arrow.to]
-    if arrow.slab == arrow.to:
-        return 0, 0.0
-    if start.row != end.row:
-        return 2, 0.0
-    to_left = (end if slab == arrow.slab else start).left < at[slab].left
-    return (1, far(start, end)) if to_left else (3, -far(start, end))
-
-
-def ports(arrows: Sequence[Arrow], at: dict[int, Spot], sizes: Measure) -> dict[tuple[Arrow, int], Port]:
-    """Where the arrows of a row leave and come."""
-    ends: dict[int, list[Arrow]] = {}
-    for arrow in arrows:
-        for slab in {arrow.slab, arrow.to} if at[arrow.slab].row == at[arrow.to].row else {arrow.slab}:
-            ends.setdefault(slab, []).append(arrow)
-    found = {}
-    for slab, here in ends.items():
-        for number, arrow in enumerate(sorted(here, key=lambda arrow: order(arrow, slab, at)), 1):
-            found[arrow, slab] = port(at[slab], order(arrow, slab, at)[0] == 1, number / (len(here) + 1), sizes)
-    return found
-
-
-def port(spot: Spot, to_left: bool, share: float, sizes: Measure) -> Port:
-    """A share of the way along a clear slab's upper edge, or through half the gap beside another slab."""
-    right, room = spot.left + sizes.wide, sizes.gap / 2 - 5
-    if spot.clear:
-        return Port(spot.left + share * sizes.wide, spot.top, None)
-    if to_left:
-        return Port(spot.left - 4 - (1 - share) * room, spot.top + HIGH / 2, spot.left)
-    return Port(right + 4 + share * room, spot.top + HIGH / 2, right)
-
-
-def head(x: float, y: float, way: str) -> str:
-    """The head of an arrow, its tip at a place."""
-    back = {"down": "l-4 -8h8z", "up": "l-4 8h8z", "left": "l8 -4v8z", "right": "l-8 -4v8z"}[way]
-    return f'<path class="head" d="M{brief(x)} {brief(y)}{back}"/>'
-
-
-def path(*parts: str | float) -> str:
-    """A line of letters and numbers."""
-    words = [part if isinstance(part, str) else brief(part) for part in parts]
-    return f'<path d="{" ".join(words)}"/>'
-
-
-def arc(start: Port, end: Port, base: float, rise: float) -> str:
-    """An arrow that goes up to a base, over it and down."""
-    first: list[str | float] = ["M", start.x, start.y]
-    last: list[str | float] = ["V", end.y - HEAD]
-    tip = head(end.x, end.y, "down")
-    if start.edge is not None:
-        first = ["M", start.edge, start.y, "Q", start.x, start.y, start.x, start.y - HEAD]
-    if end.edge is not None:
-        back = math.copysign(HEAD, end.x - end.edge)
-        last = ["V", end.y - HEAD, "Q", end.x, end.y, end.edge + back, end.y]
-        tip = head(end.edge, end.y, "left" if back > 0 else "right")
-    high = base - rise * 4 / 3
-    return path(*first, "V", base, "C", start.x, high, end.x, high, end.x, base, *last) + tip
-
-
-def around(spot: Spot, end: Port) -> tuple[str, float]:
-    """The arrow of a slab that is in its own way, and its height."""
-    left, top, y = spot.left, spot.top, end.y
-    if end.edge is None:
-        turn = path("M", left, top + 10, "C", left - 22, top + 6, end.x, top - 38, end.x, top - HEAD + 1)
-        return turn + head(end.x, top, "down"), top - 22
-    turn = path("M", end.edge, y - 6, "C", end.edge + 24, y - 18, end.edge + 24, y + 16, end.edge + HEAD, y + 4)
-    return turn + head(end.edge, y + 4, "left"), top
-
-
-def pointer(start: Port, to: int) -> tuple[str, float]:
-    """A short arrow to the number of a slab in another row, and its height."""
-    x, y = start.x, start.y
-    if start.edge is None:
-        lines = path("M", x, y, "V", y - HEAD) + head(x, y - 15, "up")
-        return lines + text(x, y - 18, str(to), "target"), y - 30
-    lines = path("M", start.edge, y, "h", 6) + head(start.edge + 13, y, "right")
-    return lines + text(start.edge + 15 + 3.5 * len(str(to)), y + 4, str(to), "target"), y
-
-
-def arcs(
-    arrows: Sequence[Arrow], at: dict[int, Spot], places: dict[tuple[Arrow, int], Port], tops: dict[float, float]
-) -> dict[Arrow, tuple[str, float]]:
-    """Arrows over the piles between their ends, the shortest first and longer ones over them; and their heights."""
-    found, done = {}, []
-    for arrow in sorted(arrows, key=lambda arrow: (far(at[arrow.slab], at[arrow.to]), arrow)):
-        start, end = places[arrow, arrow.slab], places[arrow, arrow.to]
-        first, last = sorted((at[arrow.slab].left, at[arrow.to].left))
-        left, right = sorted((start.x, end.x))
-        piled = [top - HEAD - 1 for x, top in tops.items() if first <= x <= last]
-        base = min([*piled, *(top - 1 for one, other, top in done if left <= one and other <= right)])
-        rise = 6 + math.sqrt(right - left)
-        done.append((left, right, base - rise))
-        found[arrow] = arc(start, end, base, rise), base - rise
-    return found
-
-
-def arrow_lines(cell: Cell, row: int, at: dict[int, Spot], sizes: Measure) -> tuple[list[str], float]:
-    """The arrows of a row of piles, the strong ones last, and how high they go."""
-    here = [arrow for arrow in cell.arrows if at[arrow.slab].row == row]
-    places = ports(here, at, sizes)
-    tops = {spot.left: float(spot.top) for spot in at.values() if spot.row == row and spot.clear}
-    drawn: dict[Arrow, tuple[str, float]] = {}
-    for arrow in here:
-        spot, start = at[arrow.slab], places[arrow, arrow.slab]
-        if arrow.slab == arrow.to or at[arrow.to].row != row:
-            drawn[arrow] = around(spot, start) if arrow.slab == arrow.to else pointer(start, arrow.to)
-            tops[spot.left] = min(tops[spot.left], drawn[arrow][1])
-    drawn |= arcs([arrow for arrow in here if arrow not in drawn], at, places, tops)
-    lines = []
-    for arrow in sorted(here, key=lambda arrow: arrow.ring):
-        kind = "arrow on" if arrow.ring else "arrow"
-        lines.append(f'<g class="{kind}" data-from="{arrow.slab}" data-to="{arrow.to}">{drawn[arrow][0]}</g>')
-    return lines, min((top for _, top in drawn.values()), default=0.0)
-
-
 # ---- yards
 
 
@@ -319,7 +168,7 @@ def slab_line(slab: int, spot: Spot, look: str, wide: int) -> str:
 def row_part(cell: Cell, row: int, at: dict[int, Spot], sizes: Measure) -> Part:
     """A row of piles on its ground."""
     here = {slab: spot for slab, spot in at.items() if spot.row == row}
-    arrows, highest = arrow_lines(cell, row, at, sizes)
+    arrows, highest = arrow_lines(cell.arrows, row, at, sizes)
     up = math.ceil(-min([highest, -HIGH, *(spot.top for spot in here.values())])) + 4
     beneath = "ground (0)" + (f"  {cell.labels[0]}" if 0 in cell.labels else "")
     lines = [
@@ -447,32 +296,27 @@ def parted(cell: Cell, sizes: Measure) -> bool:
     return any(at[arrow.slab].row != at[arrow.to].row for arrow in cell.arrows)
 
 
+def slab_sign(look: str, wide: int) -> str:
+    """A slab of one look, without a number."""
+    whole = {"loop": "misplaced loop", "ring": "misplaced ring", "lifted": "right lifted", "between": "wished between"}
+    mark = slab_line(0, Spot(0, 0, 0, True), whole.get(look, look), wide)
+    return mark.replace('data-slab="0"', f'data-sign="{look}"').replace(">0</text>", "></text>")
+
+
 def signs(cells: Sequence[Cell], sizes: Measure) -> Iterator[tuple[str, str, int]]:
     """What each sign of the picture means: the sign, the words, and the sign's width; only signs that are used."""
-    every = {look for cell in cells for look in cell.looks.values()}
-    used = {word for look in every for word in look.split() if word != "misplaced" or "ring" not in look}
-    spot = Spot(0, 0, 0, True)
-    for look, words in (
-        ("right", "in position"),
-        ("misplaced", "misplaced"),
-        ("ring", "on the ring, misplaced"),
-        ("lifted", "just lifted"),
-        ("between", "what stands above it is in the way"),
-        ("wished", "goal"),
-    ):
-        if look in used:
-            whole = {"ring": "misplaced ring", "lifted": "right lifted", "between": "wished between"}.get(look, look)
-            mark = slab_line(0, spot, whole, sizes.wide).replace('data-slab="0"', f'data-sign="{look}"')
-            yield mark.replace(">0</text>", "></text>"), words, sizes.wide
-    arrows = {arrow.ring for cell in cells for arrow in cell.arrows}
-    for ring in sorted(arrows):
+    every = {frozenset(look.split()) for cell in cells for look in cell.looks.values()}
+    used = {word for look in every for word in look if word != "misplaced" or not look & {"loop", "ring"}}
+    yield from ((slab_sign(look, sizes.wide), words, sizes.wide) for look, words in LOOKS.items() if look in used)
+    kinds = {arrow.kind for cell in cells for arrow in cell.arrows}
+    for kind in (kind for kind in ARROWS if kind in kinds):
         line = path("M", 0, 15, "C", 0, 0, 26, 0, 26, 9) + head(26, 17, "down")
-        yield f'<g class="arrow{" on" * ring}">{line}</g>', "waits for" + ", on the ring" * ring, 32
+        yield f'<g class="arrow {kind}" data-sign="arrow {kind}">{line}</g>', ARROWS[kind], 32
     if any(parted(cell, sizes) for cell in cells):
         line = path("M", 4, 18, "V", 12) + head(4, 4, "up") + text(17, 13, "17", "target")
-        yield f'<g class="arrow">{line}</g>', "waits for 17, in another row", 26
+        yield f'<g class="arrow" data-sign="arrow">{line}</g>', "to 17, in another row", 26
     if any(cell.labels for cell in cells):
-        yield text(0, 15, "cₙ dₙ", "label"), "c and d of slab n", 30
+        yield f'<g class="names" data-sign="names">{text(0, 15, "cₙ dₙ", "label")}</g>', "c and d of slab n", 30
 
 
 def legend(cells: Sequence[Cell], sizes: Measure, width: int) -> Part:

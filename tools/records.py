@@ -4,7 +4,8 @@
     echo "HD 1 2, NW 0, GL 0" | tools/records.py pack         each line as a line of hexadecimal
     echo "4844 0001 0002 4E57" | tools/records.py unpack      and back: HD 1 2 | 4E57
 
-Bytes that begin no record stand last, behind a bar. Ends with 2 at a line that cannot be read.
+Bytes that begin no record stand last, behind a bar. Ends with 2 at a line that cannot be read, and with 3 where the
+answer could not be written.
 """
 
 import argparse
@@ -13,6 +14,7 @@ import sys
 from collections.abc import Iterable
 from typing import NamedTuple
 
+from command import arguments, ended, put
 from lines import Fault, is_number
 from rules import TOP
 
@@ -84,17 +86,14 @@ def unpack(line: str) -> str:
 
 def main() -> int:
     """Answers each line of standard input with a line, at once."""
-    parser = argparse.ArgumentParser(description=__doc__, formatter_class=argparse.RawDescriptionHelpFormatter)
+    raw = argparse.RawDescriptionHelpFormatter
+    parser = argparse.ArgumentParser("tools/records.py", description=__doc__, formatter_class=raw)
     parser.add_argument("command", choices=("pack", "unpack"))
-    answer = {"pack": pack, "unpack": unpack}[parser.parse_args().command]
-    try:
-        for line in sys.stdin:
-            print(answer(line), flush=True)
-    except Fault as fault:
-        print(f"tools/records.py: {fault}", file=sys.stderr)
-        return 2
+    answer = {"pack": pack, "unpack": unpack}[parser.parse_args(arguments()).command]
+    for line in sys.stdin:
+        put(f"{answer(line)}\n".encode())
     return 0
 
 
 if __name__ == "__main__":
-    sys.exit(main())
+    sys.exit(ended("tools/records.py", main))

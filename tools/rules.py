@@ -12,6 +12,13 @@ NO_VERDICT = 65535
 
 METHODS = {1: "US", 2: "GN1", 3: "GN2"}
 
+# What each method does, in short.
+METHOD_WORDS = {
+    1: "puts down the misplaced clear slabs off the ground, then makes constructive lifts",
+    2: "makes constructive lifts, and at a stall puts down the lowest misplaced clear slab off the ground",
+    3: "as GN1, but at a stall puts down the lowest slab on the loop",
+}
+
 
 class Question(NamedTuple):
     """A question: who asks it, what is asked, and what a refusal's place means; no place is named where it is 0."""

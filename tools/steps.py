@@ -18,6 +18,9 @@ Pair = tuple[int, int]
 # So many slabs of a loop are named before the rest is only counted.
 NAMED = 12
 
+# What is said of a slab whose successors lead to the loop of its yard.
+WAITS = "waits on it"
+
 
 class Wait(NamedTuple):
     """A misplaced clear slab of a stalled yard: c and d of document 01, which of them its successor is above, and it."""
@@ -38,12 +41,16 @@ class Frame(NamedTuple):
 
 
 class Step(NamedTuple):
-    """A lift: whether the slab is in position after it, and the loop where the yard before it is stalled."""
+    """A lift: whether the slab is in position after it, and the loop where the yard before it is stalled.
+
+    Of a slab that is put down there, `leads` is the loop that its successors lead to: the one above, or another.
+    """
 
     slab: int
     destination: int
     home: bool
     loop: list[Pair]
+    leads: list[int]
 
 
 class Told(NamedTuple):
@@ -96,37 +103,59 @@ def steps(library: Library, sheet: Sheet, lifts: Sequence[Lift]) -> Iterator[Ste
     each = frames(library, sheet, lifts)
     before = next(each)
     for (slab, destination), after in zip(lifts, each):
-        yield Step(slab, destination, slab not in after.misplaced, before.loop)
+        home = slab not in after.misplaced
+        waits_there = before.loop and not home and slab in before.misplaced
+        leads = led(before, sheet.goal, slab) if waits_there else []
+        yield Step(slab, destination, home, before.loop, leads)
         before = after
 
 
 # ---- who is in whose way
 
 
-def top(yard: Sequence[int], slab: int) -> int:
-    """The clear slab of the pile that holds a slab."""
-    while slab in yard:
-        slab = yard.index(slab) + 1
-    return slab
+def loads(yard: Sequence[int]) -> dict[int, int]:
+    """What rests on each slab that carries one."""
+    return {support: slab for slab, support in enumerate(yard, 1) if support}
 
 
-def wait(stalled: Frame, goal: Sequence[int], slab: int) -> Wait:
-    """What a misplaced clear slab of a stalled yard waits for."""
+def wait(stalled: Frame, goal: Sequence[int], carried: dict[int, int], slab: int) -> Wait:
+    """What a misplaced clear slab of a stalled yard waits for; beside it the loads of the yard."""
     c, d = goal[slab - 1], slab
     while c in stalled.misplaced:
         c, d = goal[c - 1], c
-    through = c if c != 0 and c in stalled.yard else d
-    return Wait(slab, c, d, through, top(stalled.yard, through))
+    through = successor = c if c in carried else d
+    while successor in carried:
+        successor = carried[successor]
+    return Wait(slab, c, d, through, successor)
 
 
 def waits(stalled: Frame, goal: Sequence[int]) -> list[Wait]:
     """All that wait in a stalled yard, lowest number first; those on the loop as the deadlock test has them."""
-    found = [wait(stalled, goal, slab) for slab in sorted(stalled.misplaced) if slab not in stalled.yard]
+    carried = loads(stalled.yard)
+    found = [wait(stalled, goal, carried, slab) for slab in sorted(stalled.misplaced) if slab not in carried]
     answered = {slab: (through, after) for (slab, through), (after, _) in zip(stalled.loop, turned(stalled.loop))}
     for one in found:
         if answered.get(one.slab, (one.through, one.successor)) != (one.through, one.successor):
             raise Fault(f"slab {one.slab}: what waits does not agree with the deadlock test {stalled.loop}")
     return found
+
+
+def led(stalled: Frame, goal: Sequence[int], slab: int) -> list[int]:
+    """The loop that the successors of a slab that waits lead to, from its lowest number onward."""
+    carried, visited = loads(stalled.yard), {}
+    while slab not in visited:
+        visited[slab] = len(visited)
+        slab = wait(stalled, goal, carried, slab).successor
+    loop = list(visited)[visited[slab] :]
+    at = loop.index(min(loop))
+    return [*loop[at:], *loop[:at]]
+
+
+def standing(slab: int, leads: Sequence[int], loop: Sequence[Pair]) -> str:
+    """How a slab that waits stands to the loop of its yard, by the loop that its successors lead to."""
+    if leads == [one for one, _ in loop]:
+        return "on the loop" if slab in leads else WAITS
+    return "on another loop" if slab in leads else "waits on another loop"
 
 
 def turned(ring: list[Pair]) -> list[Pair]:
@@ -206,7 +235,17 @@ def reason(method: int, step: Step) -> str:
     if method == 1:
         return "put down, the first part of method 1"
     slabs = [slab for slab, _ in step.loop]
-    return f"stalled, loop {listed(slabs)}" + ("" if step.slab in slabs else f"; {step.slab} waits on it")
+    if step.slab in slabs:
+        return f"stalled, loop {listed(slabs)}"
+    return f"stalled, loop {listed(slabs)}; {step.slab} {apart(step.slab, step.leads, step.loop)}"
+
+
+def apart(slab: int, leads: Sequence[int], loop: Sequence[Pair]) -> str:
+    """How a slab that waits and is not on the loop of its yard stands to it."""
+    if leads == [slab]:
+        return "is in its own way"
+    how = standing(slab, leads, loop)
+    return how if how == WAITS else f"{'' if how.startswith('waits') else 'is '}{how}, {listed(leads)}"
 
 
 def verdict_in_words(sheet: Sheet, lifts: Sequence[Lift], verdict: int, place: int) -> str:

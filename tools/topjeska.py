@@ -106,24 +106,21 @@ def shared_object(archive: Path, folder: Path) -> Path:
     whole = ["-Wl,--whole-archive", str(archive), "-Wl,--no-whole-archive"]
     try:
         done(["cc", "-shared", "-o", name, *whole], "the shared object")
+        os.chmod(name, 0o755)
         os.replace(name, made)
     finally:
         Path(name).unlink(missing_ok=True)
     return made
 
 
-def usual() -> Path:
-    """The shared object of the usual library, built where it must be, with a line that says so."""
+def current() -> Path:
+    """The usual static library, built where it must be, with a line that says so."""
     archive = USUAL / "libtopjeska.a"
     if stale(archive):
         say("building the library: rt staticlib topjeska (it proves what it builds; some minutes the first time)")
         done(["rt", "staticlib", "topjeska"], "the library")
         archive.touch()
-    made = MADE / "libtopjeska.so"
-    if not made.is_file() or made.stat().st_mtime < archive.stat().st_mtime:
-        say("making the shared object target/tools/libtopjeska.so from target/staticlib/libtopjeska.a")
-        shared_object(archive, MADE)
-    return made
+    return archive
 
 
 # ---- the operations
@@ -195,17 +192,33 @@ class Library:
         return Replay(answer.refusal, answer.verdict, answer.place)
 
 
+def kept(archive: Path) -> Library:
+    """The library of a shared object that is kept, and made where it is missing, older or damaged."""
+    made = MADE / f"{archive.stem}.so"
+    if made.is_file() and made.stat().st_mtime >= archive.stat().st_mtime:
+        try:
+            return Library(made)
+        except Fault as fault:
+            say(str(fault))
+    say(f"making the shared object {made.relative_to(ROOT)} from {archive.relative_to(ROOT)}")
+    return Library(shared_object(archive, MADE))
+
+
+def unkept(archive: Path) -> Library:
+    """The library of a shared object that is made for this once."""
+    with tempfile.TemporaryDirectory() as folder:
+        return Library(shared_object(archive, Path(folder)))
+
+
 @functools.cache
 def library() -> Library:
     """The library, loaded once."""
     named = os.environ.get("TOPJESKA_LIB_DIR")
+    archive = Path(named).resolve() / "libtopjeska.a" if named else current()
+    if not archive.is_file():
+        raise Fault(f"there is no {archive}; TOPJESKA_LIB_DIR names its folder: correct it, or unset it")
     try:
-        if not named:
-            return Library(usual())
-        archive = Path(named).resolve() / "libtopjeska.a"
-        if not archive.is_file():
-            raise Fault(f"there is no {archive}; TOPJESKA_LIB_DIR names its folder: correct it, or unset it")
-        with tempfile.TemporaryDirectory() as folder:
-            return Library(shared_object(archive, Path(folder)))
+        return unkept(archive) if named else kept(archive)
     except OSError as error:
-        raise Fault(f"the library cannot be had: {error}") from error
+        say(f"the shared object cannot be kept: {error}")
+        return unkept(archive)

@@ -1,4 +1,12 @@
-//! `include/topjeska.h` in Rust: its constants, answers and functions, in its order.
+//! `include/topjeska.h` in Rust: its constants, answers and functions, in its order and its words.
+//!
+//! An arrangement of n slabs is a list of n numbers: entry i - 1 says what slab i rests on, 0 for the
+//! ground. A list is lent as a pointer and a length. The pointer is to as many numbers as the length
+//! says, and may be NULL where the length is 0; the space overlaps no other list.
+//!
+//! In every answer `refusal` is 0 where the call was answered, else one of `REFUSAL_...`; `place` is
+//! then its place, the counts are 0, and the space holds what it held. A refused replay gives no
+//! verdict: `NO_VERDICT` stands in its place.
 
 /// The version of the header, and of this crate.
 pub const VERSION: &str = env!("CARGO_PKG_VERSION");
@@ -16,13 +24,15 @@ pub const fn deadlock_space(n: usize) -> usize {
     2 * n
 }
 
-/// The bytes of stack that every call stays below.
+/// The bytes of stack that every call stays below. No call allocates memory or keeps a pointer: the
+/// working lists lie on the stack, and are as long for a few slabs as for 4,000.
 pub const STACK_BYTES: usize = 163840;
 
-/// US: puts down all that is misplaced, then makes constructive lifts.
+/// US: puts down the misplaced clear slabs off the ground, then makes constructive lifts.
 pub const METHOD_US: u16 = 1;
 
-/// GN1: makes constructive lifts, and at a stall puts down the lowest misplaced clear slab.
+/// GN1: makes constructive lifts, and at a stall puts down the lowest misplaced clear slab off the
+/// ground.
 pub const METHOD_GN1: u16 = 2;
 
 /// GN2: as GN1, but at a stall puts down the lowest slab on the loop.
@@ -100,7 +110,7 @@ pub struct CheckAnswer {
     pub place: u64,
 }
 
-/// The count of lifts written, and the count of slabs whose now and goal entries differ.
+/// The count of lifts written, and `changed`, the count of slabs whose now and goal entries differ.
 #[repr(C)]
 #[derive(Clone, Copy, Debug, PartialEq, Eq)]
 pub struct PlanAnswer {
@@ -110,7 +120,7 @@ pub struct PlanAnswer {
     pub changed: u64,
 }
 
-/// The count of deadlocked slabs written.
+/// The count of deadlocked slabs written; 0 where there is no deadlock.
 #[repr(C)]
 #[derive(Clone, Copy, Debug, PartialEq, Eq)]
 pub struct DeadlockAnswer {
@@ -119,7 +129,7 @@ pub struct DeadlockAnswer {
     pub count: u64,
 }
 
-/// The verdict, and the place of the refusal or of the verdict.
+/// The verdict, one of `VERDICT_...`, and the place of the refusal or of the verdict.
 #[repr(C)]
 #[derive(Clone, Copy, Debug, PartialEq, Eq)]
 pub struct ReplayAnswer {
@@ -137,7 +147,9 @@ extern "C" {
         goal_len: usize,
     ) -> CheckAnswer;
 
-    /// Writes the lifts of a method to the front of the space, which needs `plan_space` numbers.
+    /// Writes the lifts of a method, one of `METHOD_...`, to the front of the space, as pairs: slab,
+    /// destination. The space needs `plan_space` numbers; what lies behind the pairs keeps what it
+    /// held.
     pub fn topjeska_plan(
         method: u16,
         now: *const u16,
@@ -148,7 +160,9 @@ extern "C" {
         space_len: usize,
     ) -> PlanAnswer;
 
-    /// Writes the deadlock, if any, to the front of the space, which needs `deadlock_space` numbers.
+    /// Writes the deadlock that the constructive lifts come to, if any, to the front of the space, as
+    /// pairs: the slab, and the slab through which the next one is in its way. The space needs
+    /// `deadlock_space` numbers; what lies behind the pairs keeps what it held.
     pub fn topjeska_deadlock(
         now: *const u16,
         now_len: usize,
@@ -158,7 +172,7 @@ extern "C" {
         space_len: usize,
     ) -> DeadlockAnswer;
 
-    /// Follows a list of lifts of any length.
+    /// Follows a list of lifts, pairs of slab and destination, of any length.
     pub fn topjeska_replay(
         now: *const u16,
         now_len: usize,

@@ -204,6 +204,25 @@ fn accepted(number: u64, place: u64) -> Result<(), Refusal> {
 #[cfg(test)]
 mod tests {
     use super::*;
+    use std::error::Error;
+
+    const METHODS: [Method; 3] = [Method::Us, Method::Gn1, Method::Gn2];
+
+    /// A refusal with its place.
+    fn refusal(number: u64, place: u64) -> Refusal {
+        Refusal { number, place }
+    }
+
+    /// All four functions answer two lists by one refusal.
+    fn all_refuse(now: &[u16], goal: &[u16], refusal: Refusal) {
+        assert_eq!(check(now, goal), Err(refusal));
+        for method in METHODS {
+            assert_eq!(plan(method, now, goal), Err(refusal));
+        }
+        assert_eq!(deadlock(now, goal), Err(refusal));
+        let refused = ReplayError::Refused(refusal);
+        assert_eq!(replay(now, goal, &[[1, 0]]), Err(refused));
+    }
 
     /// The result of an answer with the place 7.
     fn told(refusal: u64, verdict: u64) -> Result<Verdict, ReplayError> {
@@ -234,11 +253,8 @@ mod tests {
     #[test]
     fn a_refusal_is_an_error_whatever_its_verdict() {
         for verdict in (0..=6).chain([ffi::NO_VERDICT]) {
-            let refusal = Refusal {
-                number: 11,
-                place: 7,
-            };
-            assert_eq!(told(11, verdict), Err(ReplayError::Refused(refusal)));
+            let refused = ReplayError::Refused(refusal(11, 7));
+            assert_eq!(told(11, verdict), Err(refused));
         }
     }
 
@@ -247,23 +263,64 @@ mod tests {
         let text = |answer: Result<Verdict, ReplayError>| answer.unwrap_err().to_string();
         assert_eq!(text(told(4, 0)), "refused by question 4 at 7");
         assert_eq!(text(told(0, 65535)), "65535 is no verdict");
+        assert_eq!(refusal(7, 3).to_string(), "refused by question 7 at 3");
+        assert_eq!(refusal(10, 0).to_string(), "refused by question 10");
+    }
+
+    #[test]
+    fn the_source_of_a_refused_replay_is_its_refusal() {
+        let refused = ReplayError::from(refusal(4, 3));
+        let source = refused.source().and_then(|source| source.downcast_ref());
+        assert_eq!(source, Some(&refusal(4, 3)));
+        assert!(ReplayError::NoVerdict(6).source().is_none());
+        assert!(refusal(4, 3).source().is_none());
+    }
+
+    #[test]
+    fn a_bad_now_is_told_from_a_bad_goal() {
+        // Document 01: "Now 2 1 5: number 4, place 3"; the same list as the goal is number 7.
+        all_refuse(&[2, 1, 5], &[0, 0, 0], refusal(ffi::REFUSAL_NOW_ENTRY, 3));
+        all_refuse(&[0, 0, 0], &[2, 1, 5], refusal(ffi::REFUSAL_GOAL_ENTRY, 3));
+    }
+
+    #[test]
+    fn sheets_of_document_01_are_answered() {
+        // S6 one way and the other, and S4.
+        let (now, goal) = (&[2, 3, 0], &[2, 0, 0]);
+        let there = vec![[1, 0], [2, 0], [1, 2]];
+        let back = vec![[1, 0], [2, 3], [1, 2]];
+        for (now, goal, lifts) in [(now, goal, there), (goal, now, back)] {
+            assert_eq!(check(now, goal), Ok(()));
+            assert_eq!(replay(now, goal, &lifts), Ok(Verdict::Arrives));
+            assert_eq!(replay(goal, now, &lifts), Ok(Verdict::Idle { lift: 2 }));
+            let elsewhere = Verdict::Elsewhere { slab: 1 };
+            assert_eq!(replay(now, goal, &lifts[..1]), Ok(elsewhere));
+            assert_eq!(plan(Method::Gn1, now, goal), Ok(Plan { lifts, changed: 1 }));
+        }
+        let (now, goal) = (&[2, 0, 4, 0], &[4, 0, 2, 0]);
+        assert_eq!(deadlock(now, goal), Ok(vec![[1, 4], [3, 2]]));
+        assert_eq!(deadlock(goal, now), Ok(vec![[1, 2], [3, 4]]));
+    }
+
+    #[test]
+    fn each_method_has_its_own_list() {
+        // A sheet of six slabs that method 3 lifts once more than method 2, and 1 once more than 3.
+        let (now, goal) = (&[3, 0, 4, 0, 2, 1], &[2, 0, 1, 0, 4, 5]);
+        let counts = METHODS.map(|method| plan(method, now, goal).unwrap().lifts.len());
+        assert_eq!(counts, [8, 6, 7]);
     }
 
     #[test]
     fn a_sheet_beyond_the_most_slabs_is_refused() {
         let (most, over) = (vec![0; ffi::MOST_SLABS], vec![0; ffi::MOST_SLABS + 1]);
-        let refusal = Refusal {
-            number: ffi::REFUSAL_TOO_MANY,
-            place: 0,
-        };
         assert_eq!(check(&most, &most), Ok(()));
-        assert_eq!(check(&over, &over), Err(refusal));
-        for method in [Method::Us, Method::Gn1, Method::Gn2] {
+        for method in METHODS {
             assert!(plan(method, &most, &most).is_ok());
-            assert_eq!(plan(method, &over, &over), Err(refusal));
         }
         assert_eq!(deadlock(&most, &most), Ok(vec![]));
-        assert_eq!(deadlock(&over, &over), Err(refusal));
+        all_refuse(&over, &over, refusal(ffi::REFUSAL_TOO_MANY, 0));
+        all_refuse(&over, &most, refusal(ffi::REFUSAL_TOO_MANY, 0));
+        all_refuse(&most, &over, refusal(ffi::REFUSAL_UNEQUAL, 0));
     }
 
     #[test]
