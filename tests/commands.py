@@ -207,7 +207,8 @@ def sheet_replays() -> Iterator[Test]:
     yield "tools/sheet replay, status", unlike(ended.returncode, 1)
     ended = run(["sheet", "replay", "-", "--json"], given=given)
     yield "tools/sheet replay --json", unlike_objects(ended, [replay_object(*one) for one in some])
-    faults = (untrue(*one[:2], len(one[2]), told["length"]) for one, told in zip(some, objects(ended)) if told["length"])
+    claims = [(one, told["length"]) for one, told in zip(some, objects(ended)) if told["length"]]
+    faults = (untrue(now, goal, len(pairs), length) for (now, goal, pairs), length in claims)
     yield "tools/sheet replay, what it claims", next(filter(None, faults), "")
 
 
@@ -281,7 +282,7 @@ def sheet_sources() -> Iterator[Test]:
     with tempfile.TemporaryDirectory() as folder:
         file = Path(folder) / "sheets"
         text = f"# two sheets\n\n{named}  # the second belief\n  0 / 0\n"
-        for what, data in (("a file", text), ("a file with CRLF", text.replace("\n", "\r\n")), ("a BOM", f"\ufeff{text}")):
+        for what, data in (("a file", text), ("CRLF", text.replace("\n", "\r\n")), ("a BOM", f"\ufeff{text}")):
             file.write_bytes(data.encode())
             wished = [right.replace("sheet: ", "sheet: S4: "), right_plan(2, [0], [0])]
             for where, ended in (
@@ -332,6 +333,13 @@ def sheet_pipes() -> Iterator[Test]:
     yield "tools/sheet, a plain line behind what it printed", wrong
     ended = run(["sheet", "check", "-"], given=f"{printed(named)}0 / 0\n")
     yield "tools/sheet, a plain line within what it printed", misended(ended, 2, ["a sheet stands among what"])
+    two = printed(named, "0 / 0")
+    ended = run(["sheet", "check", "-"], given=two.replace("\n", "\r\n"))
+    yield "tools/sheet, what it printed, with CRLF", unlike(ended.stdout.count("accepted:"), 2)
+    ended = run(["sheet", "check", "-"], given=two.replace("\n\n", "\n"))
+    yield "tools/sheet, two answers without a line between", misended(ended, 2, ["two answers of tools/sheet stand"])
+    ended = run(["sheet", "replay", "0 / 0", "-"], given=two)
+    yield "tools/sheet replay, a list from two answers", misended(ended, 2, ["holds 2 answers, where one list is"])
     ended = run(["sheet", "check", "-"], given=f"sheet: 2 0 / 0 1\n{named}\n")
     yield "tools/sheet, a sheet by the name sheet", unlike(ended.stdout.count("accepted:"), 2)
 
@@ -369,7 +377,8 @@ def sheet_edges() -> Iterator[Test]:
 def unwritten() -> Iterator[Test]:
     """A failing write is an error of its own, of every tool."""
     example = "2 0 / 0 1"
-    for words in (["sheet", "plan", "2", example], ["draw", example], ["page", example], ["card"], ["records.py", "pack"]):
+    tools = ["sheet", "plan", "2", example], ["draw", example], ["page", example], ["card"], ["records.py", "pack"]
+    for words in tools:
         command = [sys.executable, str(ROOT / "tools" / words[0]), *words[1:]]
         with open("/dev/full", "wb") as full:
             ended = subprocess.run(command, stdout=full, stderr=subprocess.PIPE, input="NW 1\n", text=True, check=False)
@@ -392,7 +401,7 @@ def alone() -> Iterator[Test]:
     with tempfile.TemporaryDirectory() as folder:
         root = Path(folder)
         shutil.copytree(ROOT / "tools", root / "tools", ignore=shutil.ignore_patterns("__pycache__"))
-        for command in (["sheet", "plan", "2", example], ["sheet", "records", "2", example], ["draw", example], ["card"]):
+        for command in (["sheet", "plan", "2", example], ["sheet", "records", "2", example], ["draw", example]):
             yield f"tools/{command[0]} alone", misended(run(command, LIBRARY, root), 0, [])
         ended = run(["records.py", "pack"], root=root, given=WORDS[0])
         yield "tools/records.py alone", misended(ended, 0, [EXAMPLE[0].hex().upper()])

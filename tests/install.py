@@ -118,7 +118,7 @@ STAYING = {
     "/usr": ["usr/include", "usr/lib/pkgconfig"],
     "/usr/local": ["usr/local/include", "usr/local/lib/pkgconfig"],
     "/usr/local/": ["usr/local/include", "usr/local/lib/pkgconfig"],
-    "/opt/slabs": ["opt"],
+    "/srv/slabs": ["srv"],
     "/usr/local/slabs": ["usr/local"],
 }
 

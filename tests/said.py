@@ -1,4 +1,4 @@
-"""What tools/sheet should say of a sheet, in words and as objects, by the reading; and whether what it claims is true."""
+"""What tools/sheet should say of a sheet, in words and as objects, by the reading; and whether its claims are true."""
 
 import re
 from collections.abc import Sequence
@@ -47,7 +47,7 @@ def lift_words(number: int, slab: int, destination: int, why: str) -> str:
 
 
 def right_lifts(method: int, now: Yard, goal: Yard, pairs: Sequence[Pair]) -> list[Object]:
-    """Each lift of a method's list: home where it is constructive, else put down; the loop where the yard is stalled."""
+    """Each lift of a method's list: home where it is constructive, else put down; the loop where it stalls."""
     said, yard = [], now
     for slab, destination in pairs:
         home = reading.is_constructive(yard, goal, slab) and destination == goal[slab - 1]
@@ -187,7 +187,8 @@ def right_check(now: Yard, goal: Yard) -> str:
     """All that the tool should print of an accepted sheet, its lines unwrapped."""
     astray, ring = reading.misplaced(now, goal), deadlocked(now, goal)
     some = f"{counted(len(astray), 'slab', 'slabs')} misplaced" + (f": {numbered(astray)}" if astray else "")
-    return "\n".join([right_accepted(now, goal), some + (f"; {ring}" if ring else ""), f"sheet: {sheet_line(now, goal)}"])
+    said = [right_accepted(now, goal), some + (f"; {ring}" if ring else "")]
+    return "\n".join([*said, f"sheet: {sheet_line(now, goal)}"])
 
 
 def resting(support: int) -> str:

@@ -1,4 +1,4 @@
-"""The library's answers about a sheet, as objects that `tools/sheet --json` prints and tools/page embeds, and in words."""
+"""The library's answers about a sheet, as objects that tools/sheet prints and tools/page embeds, and in words."""
 
 import textwrap
 from typing import Any

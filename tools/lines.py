@@ -176,8 +176,11 @@ def from_words(block: str) -> Typed:
 
 def is_printed(block: str) -> bool:
     """Whether a block of lines is an answer that tools/sheet printed, and nothing else."""
-    if not (PRINTED.search(block) and re.search(r"^sheet: ", block, re.MULTILINE)):
+    sheets = re.findall(r"^sheet: ", block, re.MULTILINE)
+    if not (PRINTED.search(block) and sheets):
         return False
+    if len(sheets) > 1:
+        raise Fault("two answers of tools/sheet stand together: an empty line belongs between them")
     for line in block.splitlines():
         if "/" in line and not line.startswith(("sheet:", " ")):
             raise Fault(f"a sheet stands among what tools/sheet printed: {line[:WIDE]}")
@@ -202,7 +205,7 @@ def from_text(text: str, source: str) -> Iterator[Typed]:
                 number += block.count("\n")
             else:
                 for line in block.split("\n"):
-                    if typed := from_line(line.rstrip("\r")):
+                    if typed := from_line(line):
                         yield typed
                     number += 1
                 number -= 1
@@ -217,7 +220,7 @@ def read_text(word: str) -> str | None:
         if word == "-":
             if sys.stdin is None:
                 raise OSError("it is closed")
-            return sys.stdin.buffer.read().decode("utf-8-sig")
+            return sys.stdin.buffer.read().decode("utf-8-sig").replace("\r\n", "\n")
         return Path(word).read_text(encoding="utf-8-sig") if os.path.isfile(word) else None
     except (OSError, UnicodeDecodeError) as error:
         raise Fault(f"{source_of(word)} cannot be read: {error}") from error
@@ -263,9 +266,12 @@ def all_lifts(word: str) -> list[Lift]:
     text = read_text(word)
     if text is None:
         return lifts_of(word)
+    if PRINTED.search(text):
+        found = [typed.lifts for typed in from_text(text, source_of(word))]
+        if len(found) != 1 or found[0] is None:
+            raise Fault(f"{source_of(word)} holds {counted(len(found), 'answer', 'answers')}, where one list is wanted")
+        return found[0]
     try:
-        if is_printed(text.strip()):
-            return from_words(text).lifts or []
         return lifts_of("\n".join(line.partition("#")[0] for line in text.splitlines()))
     except Fault as fault:
         raise Fault(f"{source_of(word)}: {fault}") from fault

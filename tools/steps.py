@@ -23,7 +23,7 @@ WAITS = "waits on it"
 
 
 class Wait(NamedTuple):
-    """A misplaced clear slab of a stalled yard: c and d of document 01, which of them its successor is above, and it."""
+    """A misplaced clear slab of a stalled yard: c and d of document 01, which of them its successor is above, it."""
 
     slab: int
     c: int
