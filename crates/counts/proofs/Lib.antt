@@ -1,0 +1,2 @@
+pub mod WaysLaws
+pub mod TableLaws
