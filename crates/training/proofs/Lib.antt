@@ -1,0 +1,12 @@
+pub mod NthLaws
+pub mod StackLaws
+pub mod StartLaws
+pub mod PartLaws
+pub mod NumberLaws
+pub mod Theorems
+pub mod Numbers
+pub mod FindLaws
+pub mod TopLaws
+pub mod PlaceLaws
+pub mod ArrangeLaws
+pub mod TrainLaws
