@@ -1,7 +1,7 @@
 -- The table of counts: the rule is tested once over all entries, by one computation, and carried to each. Assumes nothing.
 use mathlib.Core.Path.{_≡_, refl, ap, _∙_}
 use mathlib.Core.Logic.{_⊎_, inl, inr}
-use mathlib.Core.Bool.{Bool, true, false, _&&_}
+use mathlib.Core.Bool.{Bool, true, _&&_, and-eq-true-iff}
 use mathlib.Core.List.{List}
 use Prim.Native.Nat.{ℕ, zero, suc, _+_, _-_, _*_, _/_, _≤_, _<_}
 use native.Mathlib.Omega.{arith}
@@ -17,17 +17,12 @@ abbrev below : (ℕ → Bool) → ℕ → Bool
 below P zero = true
 below P (suc n) = P n && below P n
 
-both : (t u : Bool) → (t && u) ≡ true → (t ≡ true) × (u ≡ true)
-both true u e = (refl, e)
-both false true e = (e, refl)
-both false false e = (e, e)
-
 below-at : (P : ℕ → Bool) (n : ℕ) → below P n ≡ true → (i : ℕ) → i < n → P i ≡ true
 below-at P zero e i h = absurd (omega arith)
-below-at P (suc n) e i h = by (same? i n) (below-at P n (both (P n) (below P n) e .1) i)
+below-at P (suc n) e i h = by (same? i n) (below-at P n (and-eq-true-iff (P n) (below P n) .0 e .1) i)
   where
     by : (i ≡ n) ⊎ (¬ (i ≡ n)) → (i < n → P i ≡ true) → P i ≡ true
-    by (inl k) rest = ap P k ∙ both (P n) (below P n) e .0
+    by (inl k) rest = ap P k ∙ and-eq-true-iff (P n) (below P n) .0 e .0
     by (inr k) rest = rest (omega (arith, k))
 
 -- the test passes wherever n + k is at most 16

@@ -6,7 +6,7 @@ use Prim.Native.Nat.{ℕ, _+_, _*_, _/_, _%_, _^_, _<_}
 use native.Mathlib.Omega.{arith}
 use native.Mathlib.Nat.{mod-lt, add-mul, mul-assoc, mul-right-comm, div-add-mod', mul-add-mod-self-right, mul-mod-left}
 use lib.Bits.{bitXor, xor-add-and, and-le-l, and-le-r, xor-lt}
-use Rattle.generator.specs.Draws.{xorLeft, xorRight, nextSeed}
+use Rattle.generator.specs.Shifts.{xorLeft, xorRight, nextSeed}
 
 -- ---- 64 bits
 

@@ -2,7 +2,7 @@
 use mathlib.Core.Path.{refl}
 use mathlib.Core.Logic.{_≢_}
 use Prim.Native.Nat.{ℕ, zero, suc, _<_, _^_}
-use Rattle.generator.specs.Draws.{xorLeft, xorRight, nextSeed, seedAfter}
+use Rattle.generator.specs.Shifts.{xorLeft, xorRight, nextSeed, seedAfter}
 use Rattle.generator.specs.Seeds.{Lasting, draws, AllDrawn}
 use Rattle.generator.proofs.SeedLaws.{next-fits, next-some}
 

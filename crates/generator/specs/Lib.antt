@@ -1,2 +1,2 @@
-pub mod Draws
+pub mod Shifts
 pub mod Seeds

@@ -3,7 +3,7 @@ use Prim.Native.Nat.{ℕ, _<_, _^_}
 use mathlib.Core.Path.{_≡_}
 use mathlib.Core.Logic.{_≢_}
 use mathlib.Core.List.{List, [], _∷_}
-use Rattle.generator.specs.Draws.{nextSeed, seedAfter}
+use Rattle.generator.specs.Shifts.{nextSeed, seedAfter}
 
 -- However often it is drawn from, a generator can be drawn from again: its seed has 64 bits, and one that is not zero never becomes zero.
 pub record Lasting : Type 0 where
@@ -11,16 +11,16 @@ pub record Lasting : Type 0 where
   pub never-zero : (k x : ℕ) → x ≢ 0 → seedAfter k x ≢ 0
 
 -- A seed and the next.
-pub record Draw : Type 0 where
+pub record Step : Type 0 where
   pub from : ℕ
   pub to : ℕ
 
-abbrev pub AllDrawn : List Draw → Type 0
+abbrev pub AllDrawn : List Step → Type 0
 AllDrawn [] = Unit {0}
 AllDrawn (d ∷ ds) = (nextSeed (d .from) ≡ d .to) × AllDrawn ds
 
 -- Draws that were worked out apart from the definition. Zero stays zero: hence question 15.
-abbrev pub draws : List Draw
+abbrev pub draws : List Step
 draws =
     record { from = 0; to = 0 } ∷
     record { from = 1; to = 1082269761 } ∷

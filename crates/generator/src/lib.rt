@@ -1,6 +1,6 @@
 // The generator of training numbers (document 02, Job 1).
 ghost use mathlib.Core.Path.{_≡_};
-ghost use Rattle.generator.specs.Draws.{nextSeed};
+ghost use Rattle.generator.specs.Shifts.{nextSeed};
 
 // C lends it too.
 #[repr(C)]
@@ -19,7 +19,7 @@ impl Generator {
         }
     }
 
-    // One draw: the generator that is lent moves on, and its new seed is the answer.
+    // One draw, in the form that document 01 names for it: the generator is lent and moves on. Its new seed is the answer.
     pub fn advance(&mut self) -> u64
         ensures { λ r. ⌜ (r ≡ nextSeed (now (self .entry) .seed)) × (now (self .exit) .seed ≡ nextSeed (now (self .entry) .seed)) ⌝ }
     {
@@ -30,7 +30,7 @@ impl Generator {
 }
 
 // The seed after one draw.
-pub fn next_seed(seed: u64) -> u64
+fn next_seed(seed: u64) -> u64
     ensures { λ r. ⌜ r ≡ nextSeed seed ⌝ }
 {
     let a = seed ^ (seed << 13);

@@ -5,7 +5,7 @@ use Rattle.blocks.specs.Tests.{load, clearᵇ}
 use Rattle.blocks.specs.Loop.{top}
 use Rattle.blocks.specs.Question.{asksRoom}
 use Rattle.counts.specs.Ways.{ways}
-use Rattle.generator.specs.Draws.{xorLeft, xorRight, nextSeed}
+use Rattle.generator.specs.Shifts.{xorLeft, xorRight, nextSeed}
 use Rattle.training.specs.Arrangement.{nth, otherTopᵇ, picked, next, finish, arrangement}
 use Rattle.training.specs.Training.{asksFew, asksNumber, asksSeed, questions, trainAnswer, trainSpace, drawnNumber, drawAnswer, drawSpace, drawSeed}
 use Rattle.training.specs.Numbers.{Numbers, Edges}
@@ -32,6 +32,8 @@ edges-hold = record {
   draw-14 = (refl, refl, refl);
   draw-15 = (refl, refl, refl);
   draw-10 = (refl, refl, refl);
+  train-most = (refl, refl);
+  draw-most = refl;
   train-last = (refl, refl);
   train-none = (refl, refl);
   train-none-15 = refl;

@@ -1,4 +1,4 @@
--- One block taken by the code: the definition's next partial state, with its loads. Assumes nothing.
+-- One block taken by the code: the definition's next part-state, with its loads. Assumes nothing.
 use mathlib.Core.Path.{_≡_, refl, sym, ap, ap₂, _∙_, subst}
 use mathlib.Core.Logic.{_⊎_, inl, inr, _≢_}
 use mathlib.Core.List.{List}
@@ -17,10 +17,9 @@ use Rattle.lists.proofs.SearchLaws.{lowest-ext, count-le}
 use Rattle.blocks.proofs.StateLaws.{length-put, support-put-same, support-put-other, put-at}
 use Rattle.blocks.proofs.ClearLaws.{load-is}
 use Rattle.problem.specs.Known.{Loads}
-use Rattle.counts.specs.Ways.{ways}
-use Rattle.training.specs.Placing.{Open, Placing}
+use Rattle.counts.specs.Ways.{ways, held}
+use Rattle.training.specs.Placing.{Open, Placing, Placed}
 use Rattle.training.specs.Arrangement.{picked, otherTopᵇ}
-use Rattle.training.specs.Placing.{Placed}
 use Rattle.training.specs.declared.Progress.{Progress}
 use Rattle.training.proofs.NthLaws.{Ranked}
 use Rattle.counts.proofs.WaysLaws.{ways-some}
@@ -56,10 +55,10 @@ module _ {m : ℕ} {p : Progress} {s : State} {l : List ℕ} (w : Placing (suc m
   o = w .part
 
   -- the table of counts holds the two that are asked for
-  pub first-held : m + (p .grounded + 1) ≤ 16
+  pub first-held : m + (p .grounded + 1) ≤ held
   first-held = omega (arith, o .tops, count-le (clearᵇ s) (length s), w .small)
 
-  pub second-held : m + p .grounded ≤ 16
+  pub second-held : m + p .grounded ≤ held
   second-held = omega (arith, first-held)
 
   module _ {here : ℕ} (h : here ≡ ways m (p .grounded + 1)) where

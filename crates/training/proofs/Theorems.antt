@@ -19,7 +19,7 @@ use Rattle.blocks.proofs.QuestionLaws.{Decided, Decides, asks-decided, first-no
 use Rattle.blocks.proofs.DecidedLaws.{room-decided, state-decides, state-yes}
 use Rattle.counts.specs.Ways.{ways, held}
 use Rattle.counts.proofs.WaysLaws.{ways-some}
-use Rattle.generator.specs.Draws.{nextSeed}
+use Rattle.generator.specs.Shifts.{nextSeed}
 use Rattle.generator.proofs.SeedLaws.{next-some}
 use Rattle.training.specs.Arrangement.{arrangement}
 use Rattle.training.specs.Numbering.{IsState, Before, Numbering}

@@ -10,7 +10,7 @@ use Rattle.blocks.specs.Question.{allYes, firstNo, asksRoom}
 use Rattle.blocks.specs.Answer.{checked, written}
 use Rattle.counts.specs.Ways.{ways, held}
 use Rattle.counts.proofs.WaysLaws.{ways-some}
-use Rattle.generator.specs.Draws.{nextSeed}
+use Rattle.generator.specs.Shifts.{nextSeed}
 use Rattle.generator.specs.declared.Generator.{Generator}
 use Rattle.generator.proofs.SeedLaws.{next-some}
 use Rattle.training.specs.Arrangement.{arrangement}
@@ -47,9 +47,6 @@ module _ (n r : ℕ) (space : List ℕ) where
     pub too-short : r < c → length space < n → Trains n r space (Refused 10 0) space
     unfolding questions asksFew asksNumber asksRoom
     too-short k l = refused 10 0 (inr (h, inr (omega arith, inl (refl, (refl, λ m. omega arith)))))
-
-    pub numbered : r < c → n ≤ length space → Numbered n r space
-    numbered k l = record { small = h; number = omega arith; room = l }
 
     pub trained : {space′ : List ℕ} → r < c → n ≤ length space → space′ ≡ overwrite (arrangement n r) space → Trains n r space Written space′
     unfolding trainAnswer trainSpace

@@ -1,5 +1,5 @@
--- Small states by their numbers, worked out apart from the definition (with towers as lists of blocks). They settle what the theorem leaves open: that a
--- tower is grounded first, and that the others are picked by ascending top block. proofs/Numbers proves them by computation. Assumes nothing.
+-- Small states by their numbers, and answers at the edges, worked out apart from the definitions (with towers as lists of blocks): that a tower is
+-- grounded first, and that the others are picked by ascending top block, can be seen here. proofs/Numbers proves them by computation. Assumes nothing.
 use Prim.Native.Nat.{ℕ, zero, suc}
 use mathlib.Core.Path.{_≡_}
 use mathlib.Core.List.{List, [], _∷_}
@@ -84,6 +84,10 @@ pub record Edges : Type 0 where
   pub draw-14 : (drawAnswer 17 0 (lent 16) ≡ record { number = 14; place = 0 }) × (drawSpace 17 0 (lent 16) ≡ lent 16) × (drawSeed 17 1 (lent 16) ≡ 1)
   pub draw-15 : (drawAnswer 3 0 (lent 2) ≡ record { number = 15; place = 0 }) × (drawSpace 3 0 (lent 2) ≡ lent 2) × (drawSeed 3 0 (lent 2) ≡ 0)
   pub draw-10 : (drawAnswer 3 1 (lent 2) ≡ record { number = 10; place = 0 }) × (drawSpace 3 1 (lent 2) ≡ lent 2) × (drawSeed 3 1 (lent 2) ≡ 1)
+  -- 16 blocks are not too many
+  pub train-most : (trainAnswer 16 1290434218669920 (lent 16) ≡ record { number = 0; place = 0 })
+      × (trainAnswer 16 1290434218669921 (lent 15) ≡ record { number = 15; place = 0 })
+  pub draw-most : drawAnswer 16 1 (lent 16) ≡ record { number = 0; place = 0 }
   -- "only the first n entries are written"; no blocks have one state, number 0
   pub train-last : (trainAnswer 3 12 (lent 4) ≡ record { number = 0; place = 0 }) × (trainSpace 3 12 (lent 4) ≡ 3 ∷ 1 ∷ 0 ∷ 99 ∷ [])
   pub train-none : (trainAnswer 0 0 [] ≡ record { number = 0; place = 0 }) × (trainSpace 0 0 (lent 1) ≡ lent 1)

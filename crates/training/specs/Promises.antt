@@ -8,7 +8,7 @@ use Rattle.blocks.specs.State.{State}
 use Rattle.blocks.specs.Position.{Accepted}
 use Rattle.blocks.specs.Question.{allYes, no′, firstNo, numbers}
 use Rattle.counts.specs.Ways.{ways, held}
-use Rattle.generator.specs.Draws.{nextSeed}
+use Rattle.generator.specs.Shifts.{nextSeed}
 use Rattle.training.specs.Arrangement.{arrangement}
 use Rattle.training.specs.Numbering.{IsState, Numbering}
 use Rattle.training.specs.Training.{trainQuestions, TrainRefused, trainAnswer, trainSpace}

@@ -8,7 +8,7 @@ use Rattle.blocks.specs.State.{State}
 use Rattle.blocks.specs.Question.{Question, asks, asksRoom, Asked, allYes, no′, firstNo, FirstNo}
 use Rattle.blocks.specs.Answer.{CheckAnswer, checked, written}
 use Rattle.counts.specs.Ways.{ways, held}
-use Rattle.generator.specs.Draws.{nextSeed}
+use Rattle.generator.specs.Shifts.{nextSeed}
 use Rattle.training.specs.Arrangement.{arrangement}
 
 -- ---- what is asked: a "no" has the place 0

@@ -24,9 +24,9 @@ pub struct Drawn {
 }
 
 // What a state on its way needs beside its supports: how many towers are grounded, and what is left of the number.
-pub struct Progress {
-    pub grounded: usize,
-    pub rest: u64,
+struct Progress {
+    grounded: usize,
+    rest: u64,
 }
 
 // The state of n blocks of a given number, written over the first n entries.
@@ -94,7 +94,7 @@ fn arrange(n: usize, r: u64, out: &mut [u16])
     ensures { λ u. ⌜ now (out .exit) ≡ overwrite (arrangement n r) (now (out .entry)) ⌝ }
 {
     let mut room = [0u16; HELD];
-    let mut load = [0u16; 17];
+    let mut load = [0u16; HELD + 1];
     let state = &mut room[..n];
     place_all(state, &mut load, r);
     lists::copy(state, &mut out[..n]);
