@@ -2,10 +2,11 @@
  *
  * An arrangement of n slabs is a list of n numbers: entry i - 1 says what slab i rests on, 0 for the
  * ground. A list is lent as a pointer and a length. The pointer is to as many numbers as the length
- * says, and may be NULL where the length is 0; the space overlaps no other list.
+ * says, and may be NULL where the length is 0. A generator is lent as a pointer that is not NULL.
+ * What is written overlaps nothing else that is lent.
  *
  * In every answer `refusal` is 0 where the call was answered, else one of TOPJESKA_REFUSAL_...;
- * `place` is then its place, the counts are 0, and the space holds what it held. A refused replay
+ * `place` is then its place, the counts are 0, and what is lent holds what it held. A refused replay
  * gives no verdict: TOPJESKA_NO_VERDICT stands in its place. */
 #ifndef TOPJESKA_H
 #define TOPJESKA_H
@@ -19,15 +20,18 @@ extern "C" {
 
 /* ---- version, of this header and of the library beside it */
 
-#define TOPJESKA_VERSION "0.1.0"
+#define TOPJESKA_VERSION "0.2.0"
 #define TOPJESKA_VERSION_MAJOR 0
-#define TOPJESKA_VERSION_MINOR 1
+#define TOPJESKA_VERSION_MINOR 2
 #define TOPJESKA_VERSION_PATCH 0
 
 /* ---- limits and memory */
 
 /* The most slabs of a sheet. */
 #define TOPJESKA_MOST_SLABS 4000u
+
+/* The most slabs of a training sheet. */
+#define TOPJESKA_MOST_TRAINED 16u
 
 /* The numbers of lent space that planning needs for n slabs. */
 #define TOPJESKA_PLAN_SPACE(n) (4u * (n))
@@ -42,7 +46,8 @@ extern "C" {
  *     check           36 KiB
  *     replay          44 KiB
  *     planning        84 KiB
- *     deadlock test  115 KiB */
+ *     deadlock test  115 KiB
+ *     training         6 KiB */
 #define TOPJESKA_STACK_BYTES 163840u
 
 /* ---- methods of planning */
@@ -59,8 +64,9 @@ extern "C" {
 
 /* ---- refusals: the number of the first question that got a "no"
  *
- * In brackets who asks it, where not all do; the place is 0 where none is named. 12 is the planning
- * program's alone, and 13 is never answered (theorem `never-13`): no function here gives them. */
+ * In brackets who asks it, where not all that take a sheet do; the place is 0 where none is named.
+ * Training asks 14, 15 and 10, in that order. 12 is the planning program's alone, and 13 is never
+ * answered (theorem `never-13`): no function here gives them. */
 
 /* Is the method 1, 2 or 3? (planning) */
 #define TOPJESKA_REFUSAL_METHOD 1u
@@ -91,7 +97,7 @@ extern "C" {
 /* Does every slab come down to the ground in the goal? Place: the lowest slab that does not. */
 #define TOPJESKA_REFUSAL_GOAL_FLOATING 9u
 
-/* Is the lent space large enough? (planning, deadlock test) */
+/* Is the lent space large enough? (planning, deadlock test, training) */
 #define TOPJESKA_REFUSAL_SPACE 10u
 
 /* Has the lift list an even number of entries? (replay) */
@@ -103,6 +109,12 @@ extern "C" {
 
 /* Was there a slab to put down when no constructive lift existed? (planning) */
 #define TOPJESKA_REFUSAL_STALL 13u
+
+/* Are there at most 16 slabs? (training) */
+#define TOPJESKA_REFUSAL_TRAINING_SIZE 14u
+
+/* Is the number below the count of arrangements, or the seed not 0? (training) */
+#define TOPJESKA_REFUSAL_TRAINING_NUMBER 15u
 
 /* ---- verdicts of replay */
 
@@ -150,6 +162,19 @@ typedef struct {
     uint64_t refusal, verdict, place;
 } topjeska_replay_answer;
 
+/* Whether an arrangement is written; the place is 0. */
+typedef struct {
+    uint64_t refusal, place;
+} topjeska_training_answer;
+
+/* ---- generator */
+
+/* What training sheets are drawn by. A seed draws the same sheets on every machine; one that is not
+ * 0 never becomes 0. It keeps no secret and is not for statistics. */
+typedef struct {
+    uint64_t seed;
+} topjeska_generator;
+
 /* ---- functions */
 
 /* Puts questions 2 to 9 to two lists. */
@@ -174,6 +199,17 @@ topjeska_deadlock_answer topjeska_deadlock(const uint16_t *now, size_t now_len,
 topjeska_replay_answer topjeska_replay(const uint16_t *now, size_t now_len,
                                        const uint16_t *goal, size_t goal_len,
                                        const uint16_t *lifts, size_t lifts_len);
+
+/* Writes the arrangement of n slabs that has the number r to the front of the list; what lies behind
+ * its n numbers keeps what it held. The numbers below the count of arrangements (1 for no slab, 13
+ * for three, 1,290,434,218,669,921 for 16) give each arrangement that a sheet may have, each once. */
+topjeska_training_answer topjeska_training(size_t n, uint64_t r, uint16_t *out, size_t out_len);
+
+/* Moves the generator on, for no slab too, and writes the arrangement whose number is the remainder
+ * of the new seed by the count of arrangements. A refusal keeps the seed and the list. Now and goal
+ * of a sheet are two draws in a row. */
+topjeska_training_answer topjeska_training_draw(topjeska_generator *generator, size_t n,
+                                                uint16_t *out, size_t out_len);
 
 #ifdef __cplusplus
 }

@@ -1,7 +1,8 @@
 """Runs the commands of tools/ and holds what they write to document 01 and the reading.
 
 tools/records.py packs the document's example. tools/sheet: each sentence about a list, each lift's reason, rings,
-verdicts, refusals, bad lines, JSON, where sheets come from, and how it ends. All run where there is no folder tests/.
+verdicts, training sheets, refusals, bad lines, JSON, where sheets come from, and how it ends. All run where there is no
+folder tests/.
 """
 
 import itertools
@@ -22,7 +23,7 @@ import sheets
 from case import planning, read
 from reading import METHODS, MOST, TOP, Pair, Yard
 from records import EXAMPLE
-from said import check_object, deadlock_object, plan_object, replay_object
+from said import arranged_object, check_object, deadlock_object, plan_object, replay_object, trained_objects
 from said import right_check, right_deadlock, right_plan, right_replay, ring_words, untrue
 from tested import ROOT, Ended, Test, lacking, list_line, misended, sheet_line, sheet_of, unlike
 
@@ -32,6 +33,8 @@ LIBRARY = ROOT / "target" / "staticlib"
 SEVERAL = [sheet_of(line) for line in ("5 1 6 0 4 0 / 4 6 2 0 1 0", "0 4 5 0 0 0 0 9 0 11 0 / 8 5 4 0 0 0 0 11 0 9 0")]
 RANDOM_SHEETS = 300
 SEARCHED = 6
+TOP_64 = 2**64 - 1
+MANY_ZEROS = 5000 * "0"
 
 
 def run(
@@ -241,6 +244,100 @@ def sheet_objects() -> Iterator[Test]:
     yield "tools/sheet check --json, refusals", unlike(found, [right for method, _, right, _ in REFUSED if method == 2])
 
 
+# Training sheets: slabs, seed, how many. Arrangements: slabs, number.
+TRAINED = [(5, 7, 3), (0, 7, 2), (1, 1, 1), (2, TOP_64, 1), (9, 4001, 20), (16, 2**63, 20)]
+ARRANGED = [(0, 0), (1, 0), (3, 0), (3, 12), (6, 2024), (16, 1290434218669920)]
+
+# What training refuses: what is typed, the number, and what the words must have.
+UNTRAINED = [
+    (["17", "--seed", "7"], 14, ["Are there at most 16 slabs? No: there are 17."]),
+    (["17", "--seed", "0", "--count", "3"], 14, ["there are 17"]),
+    ([str(2**32 + 3), "--number", "12"], 14, [f"there are {2**32 + 3}"]),
+    ([str(TOP_64), "--number", str(TOP_64)], 14, [f"there are {TOP_64}"]),
+    (["5", "--seed", "0", "--count", "3"], 15, ["or the seed not 0? No: the seed is 0."]),
+    (["0", "--seed", "0"], 15, ["the seed is 0"]),
+    (["3", "--number", "13"], 15, ["Is the number below the count of arrangements,", "is 13, and 3 slabs have 13 arr"]),
+    (["1", "--number", "1"], 15, ["the number is 1, and 1 slab has 1 arrangement."]),
+    (["16", "--number", str(TOP_64)], 15, [f"is {TOP_64}, and 16 slabs have 1290434218669921 arrangements."]),
+]
+
+# What cannot be answered: what is typed, and what the message must say.
+UNTRAINABLE = [
+    (["x", "--seed", "7"], "the number of slabs, 'x', is not a number from 0 to 18446744073709551615"),
+    (["-1", "--seed", "7"], "the number of slabs, '-1'"),
+    ([str(TOP_64 + 1), "--seed", "7"], f"the number of slabs, '{TOP_64 + 1}'"),
+    (["5", "--seed", "0x7"], "the seed, '0x7'"),
+    (["5", "--seed", "-7"], "the seed, '-7'"),
+    (["5", "--seed", str(TOP_64 + 1)], f"the seed, '{TOP_64 + 1}'"),
+    (["5", "--seed", ""], "the seed, ''"),
+    (["5", "--seed", "+7"], "the seed, '+7'"),
+    (["5", "--seed", " 7"], "the seed, ' 7'"),
+    (["5", "--seed", "7_0"], "the seed, '7_0'"),
+    (["5", "--seed", "٧"], "the seed, '٧'"),
+    (["5", "--seed", "7", "--count", ""], "the count, ''"),
+    (["5", "--number", "1.5"], "the number, '1.5'"),
+    (["5", "--number", str(TOP_64 + 1)], f"the number, '{TOP_64 + 1}'"),
+    (["5", "--seed", "7", "--count", "0"], "the count, '0', is not a number from 1 to"),
+    (["5", "--seed", "7", "--count", "-1"], "the count, '-1'"),
+    (["5", "--seed", "7", "--count", "two"], "the count, 'two'"),
+    (["5", "--number", "7", "--count", "1"], "--count goes with --seed"),
+    (["5", "--number", "7", "--seed", "7"], "not allowed with"),
+    (["5"], "one of the arguments --seed --number is required"),
+    (["--seed", "7"], "required: N"),
+]
+
+
+def training(n: int, seed: int, count: int, *more: str) -> Ended:
+    """Runs the tool for training sheets."""
+    return run(["sheet", "train", str(n), "--seed", str(seed), "--count", str(count), *more])
+
+
+def sheet_trains() -> Iterator[Test]:
+    """Training sheets and arrangements, alone on their lines and as objects; and as what other commands read."""
+    for n, seed, count in TRAINED:
+        what, right = f"tools/sheet train, {count} of {n} slabs from {seed}", trained_objects(n, seed, count)
+        lines, told = training(n, seed, count), training(n, seed, count, "--json")
+        yield what, misended(lines, 0) or unlike(lines.stdout, "".join(f"{one['sheet']}\n" for one in right))
+        yield f"{what}, as objects", misended(told, 0) or unlike_objects(told, right)
+        some = [sheet_of(one["sheet"]) for one in right]
+        for form, text in (("lines", lines.stdout), ("objects", told.stdout)):
+            ended = run(["sheet", "plan", "2", "-"], given=text)
+            yield f"{what}, {form} read by plan", unlike_each(ended, some, [right_plan(2, *sheet) for sheet in some])
+        rest = training(n, right[0]["next"], count).stdout.splitlines()
+        yield f"{what}, the next seed", unlike(rest[: count - 1], [one["sheet"] for one in right[1:]])
+    ended = run(["sheet", "train", "5", "--seed", "7"])
+    yield "tools/sheet train, one sheet if none is named", unlike(ended.stdout, training(5, 7, 1).stdout)
+    ended = run(["sheet", "train", MANY_ZEROS + "5", "--seed", MANY_ZEROS + "7"])
+    yield "tools/sheet train, zeros in front", unlike(ended.stdout, training(5, 7, 1).stdout)
+    ended = run(["sheet", "plan", MANY_ZEROS + "2", f"{MANY_ZEROS}2 0 / {MANY_ZEROS} 1"])
+    yield "tools/sheet plan, zeros in front", unlike(ended.stdout, run(["sheet", "plan", "2", "2 0 / 0 1"]).stdout)
+    for n, number in ARRANGED:
+        words, right = ["sheet", "train", str(n), "--number", str(number)], arranged_object(n, number)
+        ended = run(words)
+        yield f"tools/sheet train, number {number} of {n} slabs", unlike(ended.stdout, f"{right['arrangement']}\n")
+        ended = run([*words, "--json"])
+        yield f"tools/sheet train, number {number} of {n} slabs, an object", unlike_objects(ended, [right])
+
+
+def sheet_untrained() -> Iterator[Test]:
+    """Training that is refused, once and by the status; that cannot be answered; and answers that are no sheets."""
+    for words, number, parts in UNTRAINED:
+        ended, told = run(["sheet", "train", *words]), run(["sheet", "train", *words, "--json"])
+        head, _, said = unwrapped(ended.stdout).partition(" place 0 ")
+        wrong = misended(ended, 1) or unlike(head, f"refused: {number},") or lacking(said, parts)
+        yield f"tools/sheet train {words}", wrong
+        given = {"slabs": int(words[0]), words[1].removeprefix("--"): words[2]}
+        right = {"command": "train", **given, "refusal": number, "place": 0, "words": said}
+        yield f"tools/sheet train {words}, an object", misended(told, 1) or unlike_objects(told, [right])
+    for words, part in UNTRAINABLE:
+        ended = run(["sheet", "train", *words])
+        yield f"tools/sheet train {words}", misended(ended, 2, [part]) or unlike(ended.stdout, "")
+    for words in (["3", "--number", "7"], ["17", "--seed", "7"]):
+        for form, part in (([], "there is no '/'"), (["--json"], "not what `tools/sheet --json` prints of a sheet")):
+            ended = run(["sheet", "plan", "2", "-"], given=run(["sheet", "train", *words, *form]).stdout)
+            yield f"tools/sheet plan, from train {words} {form}", misended(ended, 2, [part])
+
+
 def sheet_refusals() -> Iterator[Test]:
     """Refusals in words and by the status, and lines that cannot be read."""
     for method, line, (number, place), parts in REFUSED:
@@ -401,7 +498,8 @@ def alone() -> Iterator[Test]:
     with tempfile.TemporaryDirectory() as folder:
         root = Path(folder)
         shutil.copytree(ROOT / "tools", root / "tools", ignore=shutil.ignore_patterns("__pycache__"))
-        for command in (["sheet", "plan", "2", example], ["sheet", "records", "2", example], ["draw", example]):
+        commands = ["plan", "2", example], ["records", "2", example], ["train", "5", "--seed", "7"]
+        for command in (*(["sheet", *words] for words in commands), ["draw", example]):
             yield f"tools/{command[0]} alone", misended(run(command, LIBRARY, root), 0, [])
         ended = run(["records.py", "pack"], root=root, given=WORDS[0])
         yield "tools/records.py alone", misended(ended, 0, [EXAMPLE[0].hex().upper()])
@@ -460,5 +558,6 @@ def on_demand() -> Iterator[Test]:
 def tests(page: dict[str, str]) -> Iterator[Test]:
     """All tests of the tools, with the sheets of a page as they are typed."""
     of_answers = (sheet_words(page), sheet_replays(), sheet_objects(), sheet_refusals())
+    of_training = (sheet_trains(), sheet_untrained())
     of_words = (sheet_records(), sheet_sources(), sheet_pipes(), sheet_edges(), unwritten())
-    return itertools.chain(records_tool(), *of_answers, *of_words, alone(), on_demand())
+    return itertools.chain(records_tool(), *of_answers, *of_training, *of_words, alone(), on_demand())

@@ -3,9 +3,9 @@
 crates/: each statement of specs/ has a proof in proofs/ of its crate. docs/WHY.md: each theorem or law stands in the
 lines that the page names, each sheet has the lists and counts that the page states, the table of the five piles has its
 lifts and reasons (all by reading.py), each picture is what tools/draw makes of its sheet. docs/CLASSROOM.md: what is to
-be changed stands there once, and its sheet has the numbers that the page states. docs/DEMANDS.md: each file,
-definition, function and must-fail edit that it names exists. The tests of the tools are those of commands.py,
-pictures.py and page_data.py.
+be changed stands there once, its sheet has the numbers that the page states, and the sheets for a course are those of
+their seed. docs/DEMANDS.md: each file, definition, function and must-fail edit that it names exists. The tests of the
+tools are those of commands.py, pictures.py and page_data.py.
 With --write it corrects the line numbers of docs/WHY.md and draws the pictures again.
 """
 
@@ -418,6 +418,24 @@ def classroom() -> Iterator[Test]:
     yield "CLASSROOM.md, list", "" if reading.replay(now, goal, [1, 3]) == (0, 0, 0) else "1→3 does not arrive"
 
 
+def course() -> Iterator[Test]:
+    """The sheets for a course: what each quoted command of training prints, by the reading."""
+    lines = text_of(CLASSROOM).splitlines()
+    drawn, numbered = "    tools/sheet train 5 --seed 7 --count 3", "    tools/sheet train 3 --number 12"
+    yards, seed = [], 7
+    for _ in range(6):
+        *_, seed, yard = reading.training_draw(seed, 5, 5)
+        yards.append(yard)
+    sheets = [f"    {sheet_line(now, goal)}" for now, goal in zip(yards[::2], yards[1::2])]
+    last = [f"    {' '.join(map(str, reading.training(3, 12, 3)[2]))}"]
+    for command, right in ((drawn, sheets), (numbered, last)):
+        start = lines.index(command) + 4 if command in lines else 0
+        yield f"CLASSROOM.md, {command.strip()}", unlike(lines[start : start + len(right)], right)
+    told = re.search(r"Three slabs have (\d+), the numbers 0 to (\d+)", text_of(CLASSROOM))
+    count = reading.ways(3, 0)
+    yield "CLASSROOM.md, count", unlike(list(map(int, told.groups())) if told else [], [count, count - 1])
+
+
 def main() -> int:
     """Runs all tests, or with --write corrects the page's line numbers and draws its pictures first."""
     if sys.argv[1:] == ["--write"]:
@@ -428,7 +446,7 @@ def main() -> int:
                 (PICTURES / f"{name}.svg").write_text(made, encoding="utf-8")
     of_tools = [commands.tests({name: row.typed() for name, row in rows().items()}), of_draw.tests(), page_data.tests()]
     of_why = [references(), page_sheets(), waiting(), five_piles(), pictures()]
-    return counted(itertools.chain(proved(), *of_why, classroom(), demands(), *of_tools))
+    return counted(itertools.chain(proved(), *of_why, classroom(), course(), demands(), *of_tools))
 
 
 if __name__ == "__main__":

@@ -2,14 +2,15 @@
 
 The structs with their fields in order, the functions with their parameters in order, the widths of
 both, and the filler of a refused replay are read from include/topjeska.h, crates/topjeska/src/lib.rt
-and rust/src/ffi.rs, and held to each other; so is what library.py and reading.py take for granted. The
-constants and the comments of header and wrapper are held to each other, their numbers and words to
-tools/rules.py, and the version to rust/Cargo.toml. Then tests/c/fields.c names every field, and every
-constant that a call takes or answers, on sheets where an exchange shows, and tests/c/stack.c holds the
-stack of each call to the header's bound and table. Last the test is tried itself: each exchange of two
-fields, two parameters or two constants in one of the files, another word in each comment, each exchange
-of two fields or two lists between fields.c and the library, each constant of fields.c with another value,
-and smaller bounds for stack.c must be noticed. The last line is 'N passed, M failed'.
+with the generator of crates/generator/src/lib.rt, and rust/src/ffi.rs, and held to each other; so is what
+tools/topjeska.py and the tests in Python take for granted. The constants and the comments of header and
+wrapper are held to each other, their numbers and words to tools/rules.py, and the version to
+rust/Cargo.toml. Then tests/c/fields.c names every field, and every constant that a call takes or answers,
+where an exchange shows, and tests/c/stack.c holds the stack of each operation to the header's bound and
+table. Last the test is tried itself: each exchange of two fields, two parameters or two constants in one
+of the files, a field before the seed, another word in each comment, each exchange of two fields, two
+lists or two numbers between fields.c and the library, each constant of fields.c with another value, and
+smaller bounds for stack.c must be noticed. The last line is 'N passed, M failed'.
 """
 
 import argparse
@@ -23,13 +24,14 @@ from typing import NamedTuple
 
 import reading
 from compiled import INCLUDE, LIBRARY, ROOT, TARGET, Count, tried
-from library import FIELDS
 
 sys.path.append(str(ROOT / "tools"))
 import rules  # noqa: E402
+from topjeska import FIELDS, OF_TRAINING, ON_SHEETS, Generator  # noqa: E402
 
 HEADER = INCLUDE / "topjeska.h"
 EXPORTS = ROOT / "crates" / "topjeska" / "src" / "lib.rt"
+GENERATOR = ROOT / "crates" / "generator" / "src" / "lib.rt"
 WRAPPER = ROOT / "rust" / "src" / "ffi.rs"
 MANIFEST = ROOT / "rust" / "Cargo.toml"
 
@@ -42,11 +44,13 @@ C_TYPES = {
     "size_t": "usize",
     "const uint16_t *": "*const u16",
     "uint16_t *": "*mut u16",
+    "topjeska_generator *": "*mut Generator",
 }
 
-# What a caller lends for a slice, and document 01's words for the library's own.
+# What a caller lends for a slice, with its length, and for a generator; the header's words for the names of slices.
 SLICES = {"&[u16]": "*const u16", "&mut [u16]": "*mut u16"}
-WORDS = {"initial": "now", "out": "space"}
+LENT = {**SLICES, "&mut Generator": "*mut Generator"}
+WORDS = {"initial": "now", "out": "space", "state": "out"}
 
 
 class Constant(NamedTuple):
@@ -57,7 +61,7 @@ class Constant(NamedTuple):
 
 
 class Interface(NamedTuple):
-    """What a file declares: by operation fields in order, and the answer and the parameters in order; constants."""
+    """What a file declares: by struct its fields, by operation its answer and its parameters, in order; constants."""
 
     fields: dict[str, list[Named]]
     functions: dict[str, tuple[str, list[Named]]]
@@ -89,8 +93,8 @@ def in_c(part: str) -> Iterator[Named]:
 def in_rust(part: str) -> Iterator[Named]:
     """The name that a part of a body declares in Rust, with its type; two of a slice, as a caller lends it."""
     name, kind = part.strip().removeprefix("pub ").split(": ")
-    name = WORDS.get(name, name)
-    yield name, SLICES.get(kind, kind)
+    name = WORDS.get(name, name) if kind in SLICES else name
+    yield name, LENT.get(kind, kind)
     if kind in SLICES:
         yield f"{name}_len", "usize"
 
@@ -98,7 +102,7 @@ def in_rust(part: str) -> Iterator[Named]:
 ABOVE_C = r"(?:^/\* (?P<words>[^/]*?) \*/\n)?"
 C = Language(
     re.compile(r"\A/\* .*\n(?P<words>(?s:.*?)) \*/\n"),
-    re.compile(ABOVE_C + r"^typedef struct \{(?P<body>[^}]*)\} topjeska_(?P<name>\w+)_answer;", re.MULTILINE),
+    re.compile(ABOVE_C + r"^typedef struct \{(?P<body>[^}]*)\} topjeska_(?P<name>\w+?)(?:_answer)?;", re.MULTILINE),
     re.compile(
         ABOVE_C + r"^topjeska_(?P<result>\w+)_answer topjeska_(?P<name>\w+)\((?P<body>[^)]*)\);", re.MULTILINE
     ),
@@ -114,7 +118,7 @@ ABOVE_RUST = r"(?P<words>(?:^ */// .*\n)*)"
 RUST = Language(
     re.compile(r"\A//! .*\n(?P<words>(?://!.*\n)+)"),
     re.compile(
-        ABOVE_RUST + r"^#\[repr\(C\)\](?:\s#\[.*\])*\spub struct (?P<name>\w+)Answer \{(?P<body>[^}]*)\}",
+        ABOVE_RUST + r"^#\[repr\(C\)\](?:\s#\[.*\])*\spub struct (?P<name>\w+?)(?:Answer)? \{(?P<body>[^}]*)\}",
         re.MULTILINE,
     ),
     re.compile(
@@ -154,25 +158,37 @@ def declared(language: Language, text: str) -> Interface:
     )
 
 
-def interface(path: Path) -> Interface:
-    """What one of the files declares."""
-    return declared(LANGUAGES[path], path.read_text())
+def interface(path: Path, text: str = "") -> Interface:
+    """What one of the files declares, or would with another text; the exports take the generator from its crate."""
+    beside = GENERATOR.read_text() if path == EXPORTS else ""
+    return declared(LANGUAGES[path], (text or path.read_text()) + beside)
 
 
 # ---- holding them to each other
 
+# What each operation takes: numbers and a generator first, then lists, each with its length.
+SHEET = [("now", "*const u16"), ("goal", "*const u16")]
+SPACE, OUT = ("space", "*mut u16"), ("out", "*mut u16")
+TAKEN: dict[str, tuple[list[Named], list[Named]]] = {
+    "check": ([], SHEET),
+    "plan": ([("method", "u16")], [*SHEET, SPACE]),
+    "deadlock": ([], [*SHEET, SPACE]),
+    "replay": ([], [*SHEET, ("lifts", "*const u16")]),
+    "training": ([("n", "usize"), ("r", "u64")], [OUT]),
+    "training_draw": ([("generator", "*mut Generator"), ("n", "usize")], [OUT]),
+}
+
 
 def expected(operation: str) -> list[Named]:
-    """The parameters of an operation, as the tests in Python hand them over."""
-    third = {"check": [], "replay": [("lifts", "*const u16")]}.get(operation, [("space", "*mut u16")])
-    lists = [("now", "*const u16"), ("goal", "*const u16"), *third]
-    lent = [named for name, kind in lists for named in ((name, kind), (f"{name}_len", "usize"))]
-    return [("method", "u16"), *lent] if operation == "plan" else lent
+    """The parameters of an operation, as the tools and the tests in Python hand them over."""
+    first, lists = TAKEN[operation]
+    return [*first, *(named for name, kind in lists for named in ((name, kind), (f"{name}_len", "usize")))]
 
 
+STRUCTS = {**FIELDS, "generator": [name for name, _ in Generator._fields_]}
 ASSUMED = Interface(
-    {operation: [(name, "u64") for name in names] for operation, names in FIELDS.items()},
-    {operation: (operation, expected(operation)) for operation in FIELDS},
+    {struct: [(name, "u64") for name in names] for struct, names in STRUCTS.items()},
+    {operation: (operation.removesuffix("_draw"), expected(operation)) for operation in ON_SHEETS | OF_TRAINING},
     {"NO_VERDICT": Constant(reading.NO_VERDICT, "")},
 )
 
@@ -185,11 +201,11 @@ def filler(of: Interface) -> int | None:
 def differing(one: Interface, other: Interface) -> list[str]:
     """What two files declare differently of fields, parameters and the filler; empty where they agree."""
     wrong = [] if filler(one) == filler(other) else ["the filler of a refused replay"]
-    for operation in sorted({*one.fields, *other.fields, *one.functions, *other.functions}):
-        if one.fields.get(operation) != other.fields.get(operation):
-            wrong.append(f"the fields of {operation}")
-        if one.functions.get(operation) != other.functions.get(operation):
-            wrong.append(f"the parameters of {operation}")
+    for name in sorted({*one.fields, *other.fields, *one.functions, *other.functions}):
+        if one.fields.get(name) != other.fields.get(name):
+            wrong.append(f"the fields of {name}")
+        if one.functions.get(name) != other.functions.get(name):
+            wrong.append(f"the parameters of {name}")
     return wrong
 
 
@@ -215,6 +231,7 @@ def judged(verdict: rules.Verdict) -> str:
 # The constants whose name says all, and the words of the others by their numbers.
 NAMED = {
     "MOST_SLABS": rules.MOST,
+    "MOST_TRAINED": rules.MOST_TRAINED,
     "NO_VERDICT": rules.NO_VERDICT,
     "PLAN_SPACE": reading.plan_space(1),
     "DEADLOCK_SPACE": reading.deadlock_space(1),
@@ -222,7 +239,7 @@ NAMED = {
 }
 WORDED = {
     "METHOD": {number: f"{name}: {rules.METHOD_WORDS[number]}." for number, name in rules.METHODS.items()},
-    "REFUSAL": {number: asked(question) for number, question in rules.QUESTIONS.items()},
+    "REFUSAL": {number: asked(question) for number, question in (rules.QUESTIONS | rules.TRAINING).items()},
     "VERDICT": {number: judged(verdict) for number, verdict in rules.VERDICTS.items()},
 }
 
@@ -269,12 +286,21 @@ def constants_wrong() -> Iterator[tuple[str, list[str]]]:
 # ---- comments
 
 # What callers must be told, however both files put the rest.
+SIZES = {0: "no slab", 3: "three", rules.MOST_TRAINED: str(rules.MOST_TRAINED)}
+COUNTS = [f"{reading.ways(n, 0):,} for {words}" for n, words in SIZES.items()]
 TOLD = {
-    "opening": ["entry i - 1 says what slab i rests on, 0 for the ground", "may be null where the length is 0"],
+    "opening": [
+        "entry i - 1 says what slab i rests on, 0 for the ground",
+        "may be null where the length is 0",
+        "what is lent holds what it held",
+    ],
     "constant plan_space": ["the numbers of lent space"],
     "constant deadlock_space": ["the numbers of lent space"],
     "function plan": ["as pairs: slab, destination", "what lies behind the pairs keeps what it held"],
     "function deadlock": ["as pairs: the slab, and the slab through which the next one is in its way"],
+    "struct generator": ["the same sheets on every machine", "one that is not 0 never becomes 0"],
+    "function training": ["what lies behind its n numbers keeps what it held", *COUNTS],
+    "function training_draw": ["a refusal keeps the seed and the list", "two draws in a row"],
 }
 
 
@@ -319,14 +345,20 @@ STACK = ["-O2", "-pthread", "-Wl,-z,now"]  # The loader's work at a first call i
 NEAR = 4.0
 
 
+def table() -> dict[str, int]:
+    """The header's table of stacks: KiB by operation."""
+    rows = re.findall(r"^ \* {5}(\S.*\S) +(\d+) KiB", HEADER.read_text(), re.MULTILINE)
+    return {name: int(kib) for name, kib in rows}
+
+
 def mistabled(said: str) -> list[str]:
     """The rows of the header's table of stacks that are not near what stack.c has measured."""
-    table = dict(re.findall(r"^ \* {5}(\S.*\S) +(\d+) KiB", HEADER.read_text(), re.MULTILINE))
     measured = dict(re.findall(r"^stack of (.*): (\d+) bytes$", said, re.MULTILINE))
-    if table.keys() != measured.keys() or len(table) != len(FIELDS):
-        return [f"rows {sorted(table)}, measured {sorted(measured)}"]
-    rows = [(name, int(said_kib), int(measured[name]) / 1024) for name, said_kib in table.items()]
-    return [f"{name}: {kib} KiB, measured {used:.1f}" for name, kib, used in rows if abs(used - kib) > NEAR]
+    if table().keys() != measured.keys() or len(measured) != len(FIELDS):
+        return [f"rows {sorted(table())}, measured {sorted(measured)}"]
+    rows = [(name, kib, int(measured[name]) / 1024) for name, kib in table().items()]
+    far = [(name, kib, used) for name, kib, used in rows if abs(used - kib) > min(NEAR, kib / 2)]
+    return [f"{name}: {kib} KiB, measured {used:.1f}" for name, kib, used in far]
 
 
 def stacked(library: Path, folder: Path, include: Path = INCLUDE) -> Count:
@@ -388,18 +420,31 @@ def altered() -> Iterator[tuple[str, str]]:
             yield f"{found['name']} {OTHER}", replaced(text, found, OTHER)
 
 
+def shifted() -> Iterator[tuple[str, str]]:
+    """The header with a field before the generator's only one, with what was done."""
+    yield f"{HEADER.name}, generator: a field before seed", HEADER.read_text().replace(" seed;", " other, seed;")
+
+
+def alike(parameters: list[Named]) -> Iterator[tuple[range, range]]:
+    """The places of two lists that are read, each with its length, and of two numbers that are no such length."""
+    lists = [range(k, k + 2) for k, (_, kind) in enumerate(parameters) if kind == "*const u16"]
+    lengths = {k for place in lists for k in place}
+    numbers = [range(k, k + 1) for k, (_, kind) in enumerate(parameters) if "*" not in kind and k not in lengths]
+    return itertools.chain(itertools.combinations(lists, 2), itertools.combinations(numbers, 2))
+
+
 def rerouted() -> Iterator[tuple[str, str]]:
-    """The header with two lists of one type exchanged on the way to the library, by a macro."""
+    """The header with two lists of one type or two numbers exchanged on the way to the library, by a macro."""
     text = HEADER.read_text()
     for operation, (_, parameters) in interface(HEADER).functions.items():
-        lists = [k for k, (_, kind) in enumerate(parameters) if kind == "*const u16"]
-        for one, other in itertools.combinations(lists, 2):
+        for one, other in alike(parameters):
             names = [f"a{k}" for k in range(len(parameters))]
             order = [*names]
-            order[one : one + 2], order[other : other + 2] = names[other : other + 2], names[one : one + 2]
+            for here, there in zip(one, other, strict=True):
+                order[here], order[there] = names[there], names[here]
             called = f"topjeska_{operation}"
             done = f"{text}#define {called}({', '.join(names)}) {called}({', '.join(order)})\n"
-            yield f"the library, {operation}: {parameters[one][0]} and {parameters[other][0]}", done
+            yield f"the library, {operation}: {parameters[one[0]][0]} and {parameters[other[0]][0]}", done
 
 
 def trials(library: Path) -> Iterator[tuple[str, bool]]:
@@ -407,26 +452,29 @@ def trials(library: Path) -> Iterator[tuple[str, bool]]:
     for path, language in LANGUAGES.items():
         for pattern in (language.struct, language.function):
             for name, text in exchanges(path, pattern):
-                yield name, bool(differing(declared(language, text), ASSUMED))
+                yield name, bool(differing(interface(path, text), ASSUMED))
+    for name, text in shifted():
+        yield name, bool(differing(interface(HEADER, text), ASSUMED))
     for path in (HEADER, WRAPPER):
         for name, text in renumbered(path):
-            yield name, bool(misnumbered(path, declared(LANGUAGES[path], text).constants))
+            yield name, bool(misnumbered(path, interface(path, text).constants))
     for name, text in reworded(HEADER):
         yield name, bool(misworded(text, WRAPPER.read_text()))
     for name, text in reworded(WRAPPER):
         yield name, bool(misworded(HEADER.read_text(), text))
     folder = TARGET / "exchanged"
     folder.mkdir(parents=True, exist_ok=True)
-    for name, text in itertools.chain(exchanges(HEADER, C.struct), rerouted(), altered()):
+    for name, text in itertools.chain(exchanges(HEADER, C.struct), shifted(), rerouted(), altered()):
         (folder / HEADER.name).write_text(text)
         count = tried(folder / "fields", ["fields.c"], library, include=folder)
         # It runs to its end and counts what differs: a program that is not built would show nothing.
         yield f"fields.c against {name}", count.passed > 0 and count.failed > 0
     bound = next(found for found in C.constant.finditer(HEADER.read_text()) if found["name"] == "STACK_BYTES")
-    for kib, above in ((32, len(FIELDS)), (100, 1)):
+    for kib in (32, 100):
         (folder / HEADER.name).write_text(replaced(HEADER.read_text(), bound, str(kib * 1024)))
         count = stacked(library, folder, folder)
-        yield f"stack.c against a bound of {kib} KiB", count.passed > 0 and count.failed == above
+        above = sum(used > kib for used in table().values())
+        yield f"stack.c against a bound of {kib} KiB", count.passed > 0 and count.failed == above > 0
 
 
 def main() -> int:

@@ -1,17 +1,18 @@
-"""A library of the four operations, called as tools/topjeska.py has them, with guards about what it is lent.
+"""A library of the operations, called as tools/topjeska.py has them, with guards about what it is lent.
 
 An outcome is the answer's numbers and the whole space afterwards.
 """
 
 import sys
 from array import array
+from collections.abc import Sequence
 from pathlib import Path
 from typing import NamedTuple
 
 from case import SPACED, Answer, Case, flat
 
 sys.path.append(str(Path(__file__).resolve().parent.parent / "tools"))
-from topjeska import FIELDS, functions, shared_object  # noqa: E402
+from topjeska import FIELDS, OF_TRAINING, functions, shared_object  # noqa: E402
 
 
 class Outcome(NamedTuple):
@@ -23,8 +24,7 @@ class Outcome(NamedTuple):
     @classmethod
     def of(cls, answer: Answer, length: int) -> "Outcome":
         """The outcome of an answer whose pairs go to the front of a space of a length."""
-        front = array("H", flat(answer.pairs))
-        return cls(answer.numbers, front + unwritten(length)[len(front) :])
+        return cls(answer.numbers, written(flat(answer.pairs), length))
 
 
 class Fault(Exception):
@@ -36,11 +36,36 @@ def unwritten(length: int) -> array:
     return array("H", (0x8000 | i & 0x7FFF for i in range(length)))
 
 
+def written(front: Sequence[int], length: int) -> array:
+    """A space of a length after numbers were written to its front."""
+    return array("H", front) + unwritten(length)[len(front) :]
+
+
 GUARD = unwritten(16)
 
 
+class Space:
+    """A space that is lent, with a guard on both sides."""
+
+    def __init__(self, length: int) -> None:
+        """Nothing is written yet."""
+        self.length = length
+        self.numbers = GUARD + unwritten(length) + GUARD
+
+    def lent(self) -> tuple[int, int]:
+        """Where it lies, and how long it is."""
+        return self.numbers.buffer_info()[0] + len(GUARD) * self.numbers.itemsize, self.length
+
+    def held(self) -> array:
+        """What it holds after a call, which must not have written beside it."""
+        end = len(GUARD) + self.length
+        if self.numbers[: len(GUARD)] != GUARD or self.numbers[end:] != GUARD:
+            raise Fault("it wrote beside the space")
+        return self.numbers[len(GUARD) : end]
+
+
 class Library:
-    """The operations of a shared object."""
+    """The operations on a sheet of a shared object."""
 
     def __init__(self, path: Path, prefix: str) -> None:
         """Loads the shared object; every name begins with the prefix."""
@@ -48,19 +73,42 @@ class Library:
 
     def run(self, case: Case) -> Outcome:
         """Makes the call, with a guard on both sides of the space and behind each list."""
-        operation, end = case.operation, len(GUARD) + case.space
+        operation, space = case.operation, Space(case.space)
         lists = [array("H", numbers) + GUARD for numbers in (case.now, case.goal, case.lifts)]
         before = [bytes(numbers) for numbers in lists]
-        space = GUARD + unwritten(case.space) + GUARD
         words = [case.method] if operation == "plan" else []
         for numbers in lists if operation == "replay" else lists[:2]:
             words += [numbers.buffer_info()[0], len(numbers) - len(GUARD)]
         if operation in SPACED:
-            words += [space.buffer_info()[0] + len(GUARD) * space.itemsize, case.space]
+            words += space.lent()
         answer = self.functions[operation](*words)
         if before != [bytes(numbers) for numbers in lists]:
             raise Fault("it altered a list that it may only read")
-        if space[: len(GUARD)] != GUARD or space[end:] != GUARD:
-            raise Fault("it wrote beside the space")
-        numbers = tuple(getattr(answer, field) for field in FIELDS[operation])
-        return Outcome(numbers, space[len(GUARD) : end])
+        return Outcome(tuple(getattr(answer, field) for field in FIELDS[operation]), space.held())
+
+
+# What stands before and behind a generator.
+BESIDE = 0x8000_8001_8002_8003
+
+
+class Trainer:
+    """The operations of training of a shared object."""
+
+    def __init__(self, path: Path) -> None:
+        """Loads the shared object."""
+        self.functions = functions(path, "topjeska", OF_TRAINING)
+
+    def number(self, n: int, r: int, length: int) -> Outcome:
+        """The arrangement of a number, in a list of a length."""
+        space = Space(length)
+        answer = self.functions["training"](n, r, *space.lent())
+        return Outcome((answer.refusal, answer.place), space.held())
+
+    def draw(self, seed: int, n: int, length: int) -> Outcome:
+        """The arrangement that a seed draws, in a list of a length; the seed afterwards is the last of the numbers."""
+        generator, space = array("Q", [BESIDE, seed, BESIDE]), Space(length)
+        address = generator.buffer_info()[0] + generator.itemsize
+        answer = self.functions["training_draw"](address, n, *space.lent())
+        if (generator[0], generator[2]) != (BESIDE, BESIDE):
+            raise Fault("it wrote beside the generator")
+        return Outcome((answer.refusal, answer.place, generator[1]), space.held())

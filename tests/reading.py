@@ -1,4 +1,4 @@
-"""Document 01 read literally: the questions, the three methods, the deadlock test and replay.
+"""Document 01 read literally: the questions, the three methods, the deadlock test and replay; training of document 02.
 
 An arrangement is a list of n numbers: entry i - 1 says what slab i rests on, 0 for the ground.
 Each function follows its sentence and none is meant to be fast. `shortest` and `deadlocked`
@@ -6,15 +6,17 @@ decide by search what the document only defines.
 """
 
 import functools
+import itertools
 from collections import deque
 from collections.abc import Sequence
 
 Yard = Sequence[int]
 Pair = tuple[int, int]
 
-# The most slabs of a sheet, the highest 16-bit number, the numbers of the methods, and what a refused
-# replay has in place of a verdict.
+# The most slabs of a sheet and of a training sheet, the highest 16-bit number, the numbers of the methods, and what a
+# refused replay has in place of a verdict.
 MOST = 4000
+MOST_TRAINED = 16
 TOP = 65535
 METHODS = (1, 2, 3)
 NO_VERDICT = 65535
@@ -273,6 +275,61 @@ def replay(now: Yard, goal: Yard, lifts: Sequence[int]) -> tuple[int, int, int]:
         if yard[slab - 1] != goal[slab - 1]:
             return 0, 5, slab
     return 0, 0, 0
+
+
+@functools.cache
+def ways(n: int, k: int) -> int:
+    """The ways to finish a yard with n piles not yet on the ground and k that are."""
+    return 1 if n == 0 else ways(n - 1, k + 1) + (n - 1 + k) * ways(n - 1, k)
+
+
+def arranged(n: int, r: int) -> list[int]:
+    """The arrangement of n slabs that a number below `ways(n, 0)` turns into; piles are written from the foot up."""
+    loose = [[slab] for slab in range(1, n + 1)]
+    grounded: list[list[int]] = []
+    for slab in range(1, n + 1):
+        pile = next(pile for pile in loose if slab in pile)
+        others = sorted([other for other in loose + grounded if other is not pile], key=lambda other: other[-1])
+        with_it_grounded = ways(len(loose) - 1, len(grounded) + 1)
+        with_one_fewer = ways(len(loose) - 1, len(grounded))
+        loose.remove(pile)
+        if r < with_it_grounded:
+            grounded.append(pile)
+        else:
+            quotient, r = divmod(r - with_it_grounded, with_one_fewer)
+            others[quotient].extend(pile)
+    rests_on = {slab: below for pile in grounded for below, slab in itertools.pairwise([0, *pile])}
+    return [rests_on[slab] for slab in range(1, n + 1)]
+
+
+def next_seed(seed: int) -> int:
+    """The next seed: shifted left 13, right 7, left 17, each time exclusive or with the value before, in 64 bits."""
+    seed = (seed << 13 ^ seed) % 2**64
+    seed = seed >> 7 ^ seed
+    return (seed << 17 ^ seed) % 2**64
+
+
+def training(n: int, r: int, space_len: int) -> tuple[int, int, list[int]]:
+    """Training from a number: number of the refusal, place and the entries written."""
+    if n > MOST_TRAINED:
+        return 14, 0, []
+    if not r < ways(n, 0):
+        return 15, 0, []
+    if space_len < n:
+        return 10, 0, []
+    return 0, 0, arranged(n, r)
+
+
+def training_draw(seed: int, n: int, space_len: int) -> tuple[int, int, int, list[int]]:
+    """Training by a generator: number of the refusal, place, the seed afterwards and the entries written."""
+    if n > MOST_TRAINED:
+        return 14, 0, seed, []
+    if seed == 0:
+        return 15, 0, seed, []
+    if space_len < n:
+        return 10, 0, seed, []
+    after = next_seed(seed)
+    return 0, 0, after, arranged(n, after % ways(n, 0))
 
 
 def all_lifts(yard: Yard) -> list[Pair]:

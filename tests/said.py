@@ -1,4 +1,7 @@
-"""What tools/sheet should say of a sheet, in words and as objects, by the reading; and whether its claims are true."""
+"""What tools/sheet should say of a sheet, in words and as objects, by the reading; and whether its claims are true.
+
+And the training sheets that it should draw.
+"""
 
 import re
 from collections.abc import Sequence
@@ -282,3 +285,32 @@ def replay_object(now: Yard, goal: Yard, pairs: Sequence[Pair]) -> Object:
     numbers = {"verdict": verdict, "place": place, "count": len(pairs), "list": list_line(pairs)}
     length = right_length(now, goal, len(pairs)) if verdict == 0 else ""
     return {**begun("replay", now, goal), **numbers, "words": right_verdict(now, goal, pairs), "length": length}
+
+
+# ---- training
+
+
+def all_of(n: int) -> str:
+    """How many arrangements so many slabs have."""
+    return f"{counted(n, 'slab has', 'slabs have')} {counted(reading.ways(n, 0), 'arrangement', 'arrangements')}"
+
+
+def arranged_object(n: int, number: int) -> Object:
+    """The object of an arrangement that has a number."""
+    line, words = " ".join(map(str, reading.arranged(n, number))), f"{all_of(n)}: this is number {number}"
+    told = {"command": "train", "slabs": n, "number": str(number), "arrangement": line}
+    return {**told, "refusal": 0, "place": 0, "words": words}
+
+
+def trained_objects(n: int, seed: int, count: int) -> list[Object]:
+    """The objects of the sheets that a seed draws: two draws each, one sheet after the other."""
+    found = []
+    for _ in range(count):
+        _, _, between, now = reading.training_draw(seed, n, n)
+        _, _, after, goal = reading.training_draw(between, n, n)
+        first, second = (drawn % reading.ways(n, 0) for drawn in (between, after))
+        words = f"{all_of(n)}: number {first} now, number {second} in the goal"
+        seeds = {"seed": str(seed), "next": str(after), "numbers": [first, second]}
+        found.append({**begun("train", now, goal), "place": 0, "slabs": n, **seeds, "words": words})
+        seed = after
+    return found

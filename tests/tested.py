@@ -46,7 +46,7 @@ def counted(tests: Iterable[Test]) -> int:
     for what, wrong in tests:
         passed, failed = passed + (not wrong), failed + bool(wrong)
         if wrong:
-            print(f"failed: {what}: {wrong}")
+            print(f"failed: {what}: {wrong}", flush=True)
     print(f"{passed} passed, {failed} failed")
     return 1 if failed or not passed else 0
 

@@ -1,13 +1,14 @@
-"""The library's answers about a sheet, as objects that tools/sheet prints and tools/page embeds, and in words."""
+"""The library's answers as objects, which tools/sheet prints and tools/page embeds, and in words."""
 
+import functools
 import textwrap
 from typing import Any
 
 from lines import Lift, Sheet, all_shown, counted
-from rules import METHODS, MOST, QUESTIONS
+from rules import METHODS, MOST, QUESTIONS, TRAINING
 from steps import Pair, Step, deadlocked, length_in_words, lift_in_words, links, listed, reason, steps, told
 from steps import verdict_in_words
-from topjeska import Library
+from topjeska import Generator, Library
 
 # An answer: what was asked, the sheet, and the numbers and words of the answer.
 Answer = dict[str, Any]
@@ -96,6 +97,57 @@ def check(library: Library, sheet: Sheet) -> Answer:
     return {**begun, **ends, "floor": about.floor(), "words": words}
 
 
+# ---- training
+
+
+@functools.cache
+def ways(loose: int, grounded: int) -> int:
+    """How many ways there are to finish a yard with so many piles off the ground and so many on it (document 001)."""
+    if loose == 0:
+        return 1
+    return ways(loose - 1, grounded + 1) + (loose - 1 + grounded) * ways(loose - 1, grounded)
+
+
+def all_of(slabs: int) -> str:
+    """How many arrangements so many slabs have."""
+    return f"{counted(slabs, 'slab has', 'slabs have')} {counted(ways(slabs, 0), 'arrangement', 'arrangements')}"
+
+
+def untrained(given: Answer, refusal: int, place: int) -> Answer:
+    """A refusal of training, with what was given."""
+    slabs, about = given["slabs"], ""
+    if refusal == 14:
+        about = f"there are {slabs}"
+    elif refusal == 15:
+        about = f"the number is {given['number']}, and {all_of(slabs)}" if "number" in given else "the seed is 0"
+    words = question_in_words(refusal, about)
+    return {"command": "train", **given, "refusal": refusal, "place": place, "words": words}
+
+
+def train_number(library: Library, slabs: int, number: int) -> Answer:
+    """Training from a number: the arrangement."""
+    given, made = {"slabs": slabs, "number": str(number)}, library.training(slabs, number)
+    if made.refusal:
+        return untrained(given, made.refusal, made.place)
+    line, words = " ".join(map(str, made.entries)), f"{all_of(slabs)}: this is number {number}"
+    return {"command": "train", "arrangement": line, **given, "refusal": 0, "place": 0, "words": words}
+
+
+def train_seed(library: Library, slabs: int, generator: Generator) -> Answer:
+    """Training by a generator: a sheet, now and goal drawn one after the other."""
+    given = {"slabs": slabs, "seed": str(generator.seed)}
+    yards, numbers = [], []
+    for _ in ("now", "goal"):
+        made = library.training_draw(generator, slabs)
+        if made.refusal:
+            return untrained(given, made.refusal, made.place)
+        yards.append(made.entries)
+        numbers.append(generator.seed % ways(slabs, 0))
+    words = f"{all_of(slabs)}: number {numbers[0]} now, number {numbers[1]} in the goal"
+    ends = {"next": str(generator.seed), "numbers": numbers, "refusal": 0, "place": 0, "words": words}
+    return {**asked("train", Sheet(*yards)), **given, **ends}
+
+
 # ---- in words
 
 
@@ -126,11 +178,16 @@ def about_place(method: int, sheet: Sheet, number: int, place: int) -> str:
     return f"slab {place} is the lowest that does not; {where} the way down comes round: {way_down(yard, place)}"
 
 
+def question_in_words(number: int, about: str) -> str:
+    """The question that got a no, and what is wrong."""
+    questions = QUESTIONS | TRAINING
+    question = questions[number].words if number in questions else "No question has this number."
+    return question + (f" No: {about}." if about else " No.")
+
+
 def refusal_in_words(method: int, sheet: Sheet, number: int, place: int) -> str:
     """The question that got a no, and what is wrong with the sheet or the method."""
-    question = QUESTIONS[number].words if number in QUESTIONS else "No question of document 01 has this number."
-    about = about_place(method, sheet, number, place)
-    return question + (f" No: {about}." if about else " No.")
+    return question_in_words(number, about_place(method, sheet, number, place))
 
 
 def cost_in_words(misplaced: int, ring: list[Pair]) -> str:
@@ -204,12 +261,24 @@ def check_in_words(answer: Answer) -> list[str]:
     return [sentence(answer["words"]), sentence(some + ring), *rows([sheet_row(answer)])]
 
 
-IN_WORDS = {"plan": plan_in_words, "deadlock": deadlock_in_words, "replay": replay_in_words, "check": check_in_words}
+def train_in_words(answer: Answer) -> list[str]:
+    """The sheet or the arrangement alone, as it is typed."""
+    return [answer["sheet"] if "sheet" in answer else answer["arrangement"]]
+
+
+IN_WORDS = {
+    "plan": plan_in_words,
+    "deadlock": deadlock_in_words,
+    "replay": replay_in_words,
+    "check": check_in_words,
+    "train": train_in_words,
+}
 
 
 def in_words(answer: Answer) -> str:
     """An answer as tools/sheet prints it."""
     if answer["refusal"]:
         head = f"refused: {answer['refusal']}, place {answer['place']}"
-        return "\n".join([head, sentence(f"  {answer['words']}"), *rows([sheet_row(answer)])])
+        row = [sheet_row(answer)] if "sheet" in answer else []
+        return "\n".join([head, sentence(f"  {answer['words']}"), *rows(row)])
     return "\n".join(IN_WORDS[answer["command"]](answer))

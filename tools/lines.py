@@ -15,6 +15,8 @@ from typing import Any, NamedTuple
 from rules import TOP
 
 WIDE = 40
+# The highest number of 64 bits.
+TOP_64 = 2**64 - 1
 WORD = re.compile(r"[^\s,]+")
 LIFT = re.compile(r"([0-9]+)(?:→|->)([0-9]+)")
 NAME = re.compile(r"\s*([^:/]*?)\s*:")
@@ -68,9 +70,22 @@ def at(line: str, column: int, what: str) -> Fault:
     return Fault(f"column {column + 1}: {what}\n  {part}\n  {' ' * (column - left)}^")
 
 
-def is_number(word: str) -> bool:
-    """Whether a word is a number that a record's field of 2 bytes can hold."""
-    return word.isascii() and word.isdecimal() and len(word.lstrip("0")) <= len(str(TOP)) and int(word) <= TOP
+def shortened(word: str) -> str:
+    """The digits of a number without zeros in front, which may be too many to be counted."""
+    return word.lstrip("0") or "0"
+
+
+def is_number(word: str, most: int = TOP) -> bool:
+    """Whether a word is a number that is not too high: by default one that a record's field of 2 bytes can hold."""
+    digits = shortened(word)
+    return word.isascii() and word.isdecimal() and len(digits) <= len(str(most)) and int(digits) <= most
+
+
+def number_of(word: str, name: str, least: int = 0) -> int:
+    """A number of 64 bits as it was typed."""
+    if not is_number(word, TOP_64) or int(shortened(word)) < least:
+        raise Fault(f"{name}, '{word}', is not a number from {least} to {TOP_64}")
+    return int(shortened(word))
 
 
 def entries(line: str, first: int, last: int, name: str) -> list[int]:
@@ -80,7 +95,7 @@ def entries(line: str, first: int, last: int, name: str) -> list[int]:
         if not is_number(word.group()):
             entry = f"{name} entry {len(found) + 1}, '{word.group()}',"
             raise at(line, word.start(), f"{entry} is not a number from 0 to {TOP}")
-        found.append(int(word.group()))
+        found.append(int(shortened(word.group())))
     return found
 
 
@@ -125,7 +140,7 @@ def lifts_of(line: str) -> list[Lift]:
         lift = LIFT.fullmatch(word.group())
         if lift is None or not all(map(is_number, lift.groups())):
             raise at(line, word.start(), f"lift {len(found) + 1}, '{word.group()}', is not of the form 1→0")
-        found.append((int(lift[1]), int(lift[2])))
+        found.append((int(shortened(lift[1])), int(shortened(lift[2]))))
     return found
 
 
@@ -133,7 +148,7 @@ def method_of(word: str) -> int:
     """The method's number as it was typed; whether it is a method is asked by the library."""
     if not is_number(word):
         raise Fault(f"the method, '{word}', is not a number from 0 to {TOP}; the methods are 1, 2 and 3")
-    return int(word)
+    return int(shortened(word))
 
 
 # ---- files, standard input, and what tools/sheet prints
@@ -162,7 +177,7 @@ def from_json(text: str) -> Typed:
         method = field(told, "method") if "method" in told else 0
         return Typed(sheet._replace(name=name_of(name, name)), method, listed_in(told))
     except (ValueError, KeyError, TypeError, AttributeError, RecursionError) as error:
-        raise Fault(f"this is not what `tools/sheet --json` prints: {text[:WIDE]} ({error!r})") from error
+        raise Fault(f"this is not what `tools/sheet --json` prints of a sheet: {text[:WIDE]} ({error!r})") from error
 
 
 def from_words(block: str) -> Typed:

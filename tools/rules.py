@@ -1,12 +1,14 @@
-"""Document 01's numbers in words: methods, questions put to a sheet, verdicts of replay, and the most slabs.
+"""The documents' numbers in words: methods, questions, verdicts of replay, and the most slabs.
 
 The tools and the fault card take their words from here; the header and the wrapper are held to it by tests.
 """
 
 from typing import NamedTuple
 
-# The most slabs of a sheet, the highest 16-bit number, and what a refused replay has in place of a verdict.
+# The most slabs of a sheet and of a training sheet, the highest 16-bit number, and what a refused replay has in place
+# of a verdict.
 MOST = 4000
+MOST_TRAINED = 16
 TOP = 65535
 NO_VERDICT = 65535
 
@@ -44,7 +46,7 @@ QUESTIONS = {
     7: Question(ALL, "Is every goal entry at most n?", SLAB),
     8: Question(ALL, "Does each slab carry at most one slab in the goal?", SHARED),
     9: Question(ALL, "Does every slab come down to the ground in the goal?", FLOATING),
-    10: Question("planning, deadlock test", "Is the lent space large enough?", ""),
+    10: Question("planning, deadlock test, training", "Is the lent space large enough?", ""),
     11: Question("replay", "Has the lift list an even number of entries?", ""),
     12: Question(
         "program",
@@ -52,6 +54,12 @@ QUESTIONS = {
         "the records before it, or 2 × n + 1 for a tail",
     ),
     13: Question("planning", "Was there a slab to put down when no constructive lift existed?", ""),
+}
+
+# What training asks before 10; it is not put to sheets.
+TRAINING = {
+    14: Question("training", f"Are there at most {MOST_TRAINED} slabs?", ""),
+    15: Question("training", "Is the number below the count of arrangements, or the seed not 0?", ""),
 }
 
 

@@ -1,4 +1,4 @@
-"""The proved library in Python: the four operations of include/topjeska.h through a shared object.
+"""The proved library in Python: the operations of include/topjeska.h through a shared object.
 
 The shared object is made from target/staticlib/libtopjeska.a, or from the one in the folder that TOPJESKA_LIB_DIR
 names; where the usual one is missing or older than its sources it is built first. Both are said on standard error.
@@ -16,17 +16,34 @@ from pathlib import Path
 from typing import Any, NamedTuple
 
 from lines import Fault, Lift, Sheet
+from rules import MOST_TRAINED
 
 ROOT = Path(__file__).resolve().parent.parent
 USUAL = ROOT / "target" / "staticlib"
 MADE = ROOT / "target" / "tools"
 
-# The fields of each operation's answer, in the header's order.
+# The fields of each answer, in the header's order.
 FIELDS = {
     "check": ("refusal", "place"),
     "plan": ("refusal", "place", "count", "changed"),
     "deadlock": ("refusal", "place", "count"),
     "replay": ("refusal", "verdict", "place"),
+    "training": ("refusal", "place"),
+}
+
+# What the operations on a sheet take, and those of training, in the header's order; a list is lent as a pointer and a
+# length. Both of training have the same answer.
+Takes = dict[str, list[Any]]
+LENT = [ctypes.c_void_p, ctypes.c_size_t]
+ON_SHEETS: Takes = {
+    "check": LENT * 2,
+    "plan": [ctypes.c_uint16, *LENT * 3],
+    "deadlock": LENT * 3,
+    "replay": LENT * 3,
+}
+OF_TRAINING: Takes = {
+    "training": [ctypes.c_size_t, ctypes.c_uint64, *LENT],
+    "training_draw": [ctypes.c_void_p, ctypes.c_size_t, *LENT],
 }
 
 
@@ -68,6 +85,20 @@ class Replay(NamedTuple):
     refusal: int
     verdict: int
     place: int
+
+
+class Training(NamedTuple):
+    """An arrangement; no entries after a refusal."""
+
+    refusal: int
+    place: int
+    entries: list[int]
+
+
+class Generator(ctypes.Structure):
+    """What training draws by: its seed, which each draw moves on."""
+
+    _fields_ = [("seed", ctypes.c_uint64)]
 
 
 # ---- the shared object
@@ -126,17 +157,15 @@ def current() -> Path:
 # ---- the operations
 
 
-def functions(path: Path, prefix: str) -> dict[str, Callable[..., Any]]:
-    """The operations of a shared object whose names begin with a prefix, with their types."""
+def functions(path: Path, prefix: str, takes: Takes = ON_SHEETS) -> dict[str, Callable[..., Any]]:
+    """Operations of a shared object whose names begin with a prefix, with their types; by default those on a sheet."""
     loaded = ctypes.CDLL(str(path))
-    lent = [ctypes.c_void_p, ctypes.c_size_t]
     named = {}
-    for operation, fields in FIELDS.items():
+    for operation, taken in takes.items():
         function = getattr(loaded, f"{prefix}_{operation}")
-        layout = [(field, ctypes.c_uint64) for field in fields]
+        layout = [(field, ctypes.c_uint64) for field in FIELDS[operation.removesuffix("_draw")]]
         function.restype = type(operation, (ctypes.Structure,), {"_fields_": layout})
-        first = [ctypes.c_uint16] if operation == "plan" else []
-        function.argtypes = first + lent * (2 if operation == "check" else 3)
+        function.argtypes = taken
         named[operation] = function
     return named
 
@@ -147,12 +176,12 @@ def lent(numbers: array) -> tuple[int, int]:
 
 
 class Library:
-    """The four operations."""
+    """The four operations on a sheet, and the two of training."""
 
     def __init__(self, path: Path) -> None:
         """Loads a shared object."""
         try:
-            self.called = functions(path, "topjeska")
+            self.called = functions(path, "topjeska", ON_SHEETS | OF_TRAINING)
         except (OSError, AttributeError) as error:
             raise Fault(f"the library {path} cannot be loaded: {error}") from error
 
@@ -190,6 +219,20 @@ class Library:
         numbers = array("H", [number for lift in lifts for number in lift])
         answer = self.called["replay"](*lent(now), *lent(goal), *lent(numbers))
         return Replay(answer.refusal, answer.verdict, answer.place)
+
+    def training(self, n: int, number: int) -> Training:
+        """The arrangement of n slabs that has a number."""
+        return self.arranged("training", n, n, number)
+
+    def training_draw(self, generator: Generator, n: int) -> Training:
+        """The arrangement of n slabs that a generator draws; a refusal keeps its seed."""
+        return self.arranged("training_draw", n, ctypes.byref(generator), n)
+
+    def arranged(self, operation: str, n: int, *words: object) -> Training:
+        """What an operation of training writes to a list that is long enough for every n that it arranges."""
+        out = array("H", bytes(2 * min(n, MOST_TRAINED)))
+        answer = self.called[operation](*words, *lent(out))
+        return Training(answer.refusal, answer.place, [] if answer.refusal else out.tolist())
 
 
 def kept(archive: Path) -> Library:

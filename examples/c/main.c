@@ -1,4 +1,5 @@
-/* Sheets of document 01 through the library: their lifts, their deadlocks, a replay and a refusal. */
+/* Sheets of document 01 through the library: their lifts, their deadlocks, a replay and a refusal;
+ * then a training sheet. */
 #include <inttypes.h>
 #include <stdio.h>
 #include <stdlib.h>
@@ -28,7 +29,7 @@ static void print_pairs(const uint16_t *pairs, uint64_t count, const char *betwe
     printf("\n");
 }
 
-/* Ends the program where a sheet of document 01 is refused. */
+/* Ends the program where something is refused. */
 static void accepted(uint64_t refusal, uint64_t place) {
     if (refusal != 0) {
         fprintf(stderr, "refused by question %" PRIu64 " at %" PRIu64 "\n", refusal, place);
@@ -61,6 +62,16 @@ static void show(const sheet *s) {
         printf("%s does not arrive: verdict %" PRIu64 "\n", s->name, replay.verdict);
 }
 
+/* Draws an arrangement of a training sheet, and prints it. */
+static void draw(topjeska_generator *generator, const sheet *s, const char *which, uint16_t *out) {
+    topjeska_training_answer drawn = topjeska_training_draw(generator, s->n, out, s->n);
+    accepted(drawn.refusal, drawn.place);
+    printf("%s %s", s->name, which);
+    for (size_t i = 0; i < s->n; i++)
+        printf(" %u", out[i]);
+    printf("\n");
+}
+
 int main(void) {
     for (size_t i = 0; i < sizeof sheets / sizeof sheets[0]; i++)
         show(&sheets[i]);
@@ -78,5 +89,11 @@ int main(void) {
     topjeska_plan_answer refused =
         topjeska_plan(TOPJESKA_METHOD_US, bad, 3, ground, 3, space, TOPJESKA_PLAN_SPACE(3));
     printf("2 1 5: refused by question %" PRIu64 " at %" PRIu64 "\n", refused.refusal, refused.place);
+
+    sheet trained = {"seed 7", MOST, {0}, {0}};
+    topjeska_generator generator = {7};
+    draw(&generator, &trained, "now", trained.now);
+    draw(&generator, &trained, "goal", trained.goal);
+    show(&trained);
     return 0;
 }

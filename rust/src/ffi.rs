@@ -1,11 +1,12 @@
-//! `include/topjeska.h` in Rust: its constants, answers and functions, in its order and its words.
+//! `include/topjeska.h` in Rust: its constants, structs and functions, in its order and its words.
 //!
 //! An arrangement of n slabs is a list of n numbers: entry i - 1 says what slab i rests on, 0 for the
 //! ground. A list is lent as a pointer and a length. The pointer is to as many numbers as the length
-//! says, and may be NULL where the length is 0; the space overlaps no other list.
+//! says, and may be NULL where the length is 0. A generator is lent as a pointer that is not NULL.
+//! What is written overlaps nothing else that is lent.
 //!
 //! In every answer `refusal` is 0 where the call was answered, else one of `REFUSAL_...`; `place` is
-//! then its place, the counts are 0, and the space holds what it held. A refused replay gives no
+//! then its place, the counts are 0, and what is lent holds what it held. A refused replay gives no
 //! verdict: `NO_VERDICT` stands in its place.
 
 /// The version of the header, and of this crate.
@@ -13,6 +14,9 @@ pub const VERSION: &str = env!("CARGO_PKG_VERSION");
 
 /// The most slabs of a sheet.
 pub const MOST_SLABS: usize = 4000;
+
+/// The most slabs of a training sheet.
+pub const MOST_TRAINED: usize = 16;
 
 /// The numbers of lent space that planning needs for n slabs.
 pub const fn plan_space(n: usize) -> usize {
@@ -67,7 +71,7 @@ pub const REFUSAL_GOAL_SHARED: u64 = 8;
 /// Does every slab come down to the ground in the goal? Place: the lowest slab that does not.
 pub const REFUSAL_GOAL_FLOATING: u64 = 9;
 
-/// Is the lent space large enough? (planning, deadlock test)
+/// Is the lent space large enough? (planning, deadlock test, training)
 pub const REFUSAL_SPACE: u64 = 10;
 
 /// Has the lift list an even number of entries? (replay)
@@ -79,6 +83,12 @@ pub const REFUSAL_RECORD: u64 = 12;
 
 /// Was there a slab to put down when no constructive lift existed? (planning)
 pub const REFUSAL_STALL: u64 = 13;
+
+/// Are there at most 16 slabs? (training)
+pub const REFUSAL_TRAINING_SIZE: u64 = 14;
+
+/// Is the number below the count of arrangements, or the seed not 0? (training)
+pub const REFUSAL_TRAINING_NUMBER: u64 = 15;
 
 /// Arrives.
 pub const VERDICT_ARRIVES: u64 = 0;
@@ -138,6 +148,22 @@ pub struct ReplayAnswer {
     pub place: u64,
 }
 
+/// Whether an arrangement is written; the place is 0.
+#[repr(C)]
+#[derive(Clone, Copy, Debug, PartialEq, Eq)]
+pub struct TrainingAnswer {
+    pub refusal: u64,
+    pub place: u64,
+}
+
+/// What training sheets are drawn by. A seed draws the same sheets on every machine; one that is not
+/// 0 never becomes 0. It keeps no secret and is not for statistics.
+#[repr(C)]
+#[derive(Clone, Debug, PartialEq, Eq)]
+pub struct Generator {
+    pub seed: u64,
+}
+
 extern "C" {
     /// Puts questions 2 to 9 to two lists.
     pub fn topjeska_check(
@@ -181,4 +207,20 @@ extern "C" {
         lifts: *const u16,
         lifts_len: usize,
     ) -> ReplayAnswer;
+
+    /// Writes the arrangement of n slabs that has the number r to the front of the list; what lies
+    /// behind its n numbers keeps what it held. The numbers below the count of arrangements (1 for no
+    /// slab, 13 for three, 1,290,434,218,669,921 for 16) give each arrangement that a sheet may have,
+    /// each once.
+    pub fn topjeska_training(n: usize, r: u64, out: *mut u16, out_len: usize) -> TrainingAnswer;
+
+    /// Moves the generator on, for no slab too, and writes the arrangement whose number is the
+    /// remainder of the new seed by the count of arrangements. A refusal keeps the seed and the list.
+    /// Now and goal of a sheet are two draws in a row.
+    pub fn topjeska_training_draw(
+        generator: *mut Generator,
+        n: usize,
+        out: *mut u16,
+        out_len: usize,
+    ) -> TrainingAnswer;
 }

@@ -5,7 +5,7 @@ use std::fmt;
 
 pub mod ffi;
 
-/// A question of document 01 answered "no": its number, and its place or 0.
+/// A question answered "no": its number, and its place or 0.
 #[derive(Clone, Copy, Debug, PartialEq, Eq)]
 pub struct Refusal {
     pub number: u64,
@@ -187,6 +187,66 @@ pub fn replay(now: &[u16], goal: &[u16], lifts: &[Lift]) -> Result<Verdict, Repl
     answer.try_into()
 }
 
+/// Writes the arrangement of n slabs that has the number r to the front of a list. Each number below the count of
+/// arrangements has its own. A refusal keeps the list.
+///
+/// ```
+/// use topjeska::{training, Refusal};
+///
+/// // Three slabs have 13 arrangements; this is the last.
+/// let mut out = [9; 4];
+/// training(3, 12, &mut out)?;
+/// assert_eq!(out, [3, 1, 0, 9]);
+/// # Ok::<(), Refusal>(())
+/// ```
+pub fn training(n: usize, r: u64, out: &mut [u16]) -> Result<(), Refusal> {
+    // SAFETY: the pointer is a slice's own, with its length.
+    let answer = unsafe { ffi::topjeska_training(n, r, out.as_mut_ptr(), out.len()) };
+    accepted(answer.refusal, answer.place)
+}
+
+/// What training sheets are drawn by. A seed draws the same sheets on every machine; one that is not 0 never becomes 0.
+/// It keeps no secret and is not for statistics.
+///
+/// Now and goal of a sheet are two draws in a row:
+///
+/// ```
+/// use topjeska::{check, Generator, Refusal};
+///
+/// let mut generator = Generator::new(7);
+/// let (mut now, mut goal) = ([0; 5], [0; 5]);
+/// generator.draw(5, &mut now)?;
+/// generator.draw(5, &mut goal)?;
+/// assert_eq!(now, [3, 0, 0, 5, 2]);
+/// assert_eq!(goal, [2, 0, 0, 1, 0]);
+/// assert_eq!(check(&now, &goal), Ok(()));
+/// # Ok::<(), Refusal>(())
+/// ```
+#[derive(Clone, Debug, PartialEq, Eq)]
+pub struct Generator(ffi::Generator);
+
+impl Generator {
+    /// A generator with a seed; with 0 every draw is refused.
+    pub const fn new(seed: u64) -> Self {
+        Generator(ffi::Generator { seed })
+    }
+
+    /// The seed: another generator with it draws what this one would.
+    pub const fn seed(&self) -> u64 {
+        self.0.seed
+    }
+
+    /// Moves on, for no slab too, and writes an arrangement of n slabs to the front of a list. A refusal keeps the seed
+    /// and the list.
+    pub fn draw(&mut self, n: usize, out: &mut [u16]) -> Result<(), Refusal> {
+        let generator = &mut self.0;
+        // SAFETY: the generator is this one's own, and the other pointer is a slice's own, with its length.
+        let answer =
+            unsafe { ffi::topjeska_training_draw(generator, n, out.as_mut_ptr(), out.len()) };
+        accepted(answer.refusal, answer.place)
+    }
+}
+
 /// The slabs that space is made for: none beyond the most, where the library refuses.
 fn slabs(now: &[u16]) -> usize {
     now.len().min(ffi::MOST_SLABS)
@@ -335,5 +395,65 @@ mod tests {
             place: 3,
         };
         assert_eq!(answer, expected);
+    }
+
+    #[test]
+    fn each_number_below_the_count_has_its_own_arrangement() {
+        let every: Vec<_> = (0..13)
+            .map(|r| {
+                let mut out = [0; 3];
+                assert_eq!(training(3, r, &mut out), Ok(()));
+                assert_eq!(check(&out, &[0; 3]), Ok(()));
+                out
+            })
+            .collect();
+        // All on the ground at 0, each on the highest other top at 12, and none twice.
+        assert_eq!((every[0], every[12]), ([0; 3], [3, 1, 0]));
+        for (r, one) in every.iter().enumerate() {
+            assert!(!every[..r].contains(one));
+        }
+    }
+
+    #[test]
+    fn a_draw_moves_the_generator_on() {
+        // From 1 the shifts give 8193, 8257, 1082269761. By 73, the count for four slabs, that leaves 12.
+        let mut generator = Generator::new(1);
+        let (mut out, mut numbered) = ([9; 5], [9; 5]);
+        assert_eq!(generator.draw(4, &mut out), Ok(()));
+        assert_eq!((generator.seed(), out), (1082269761, [0, 0, 4, 2, 9]));
+        assert_eq!(training(4, 12, &mut numbered), Ok(()));
+        assert_eq!(out, numbered);
+        let mut other = Generator::new(1);
+        assert_eq!(other.draw(0, &mut []), Ok(()));
+        assert_eq!(other, generator);
+    }
+
+    #[test]
+    fn refused_training_keeps_what_is_lent() {
+        const LAST: u64 = 1_290_434_218_669_920;
+        let (most, mut out) = (ffi::MOST_TRAINED, [9; ffi::MOST_TRAINED + 1]);
+        let [size, number, space] = [
+            ffi::REFUSAL_TRAINING_SIZE,
+            ffi::REFUSAL_TRAINING_NUMBER,
+            ffi::REFUSAL_SPACE,
+        ]
+        .map(|number| Err(refusal(number, 0)));
+        // The first "no" of 14, 15 and 10, in that order.
+        assert_eq!(training(most + 1, u64::MAX, &mut []), size);
+        assert_eq!(training(usize::MAX, 0, &mut out), size);
+        assert_eq!(training(most, LAST + 1, &mut out[..most - 1]), number);
+        assert_eq!(training(0, 1, &mut []), number);
+        assert_eq!(training(most, LAST, &mut out[..most - 1]), space);
+        for seed in [0, 7] {
+            let mut generator = Generator::new(seed);
+            let third = if seed == 0 { number } else { space };
+            assert_eq!(generator.draw(most + 1, &mut []), size);
+            assert_eq!(generator.draw(usize::MAX, &mut out), size);
+            assert_eq!(generator.draw(most, &mut out[..most - 1]), third);
+            assert_eq!(generator.seed(), seed);
+        }
+        assert_eq!(out, [9; ffi::MOST_TRAINED + 1]);
+        assert_eq!(training(most, LAST, &mut out[..most]), Ok(()));
+        assert_eq!((out[0], out[most - 1], out[most]), (16, 0, 9));
     }
 }

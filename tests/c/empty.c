@@ -1,5 +1,6 @@
 /* NULL lent wherever a length is 0: each list of S2 (document 01: now 2 0, goal 0 1) in turn empty or
- * whole, in every combination, by every operation. The answers are those of document 01. */
+ * whole, in every combination, by every operation on sheets, and the list of a training sheet. The
+ * answers are those of the documents. */
 #include "expect.h"
 
 static const uint16_t now[] = {2, 0}, goal[] = {0, 1}, lifts[] = {1, 0, 2, 1};
@@ -61,7 +62,31 @@ static void replays(size_t n, size_t m, size_t len) {
         replay_is("replay", got, 0, 0, 0);
 }
 
+/* No slab has one arrangement, number 0, and needs no list. */
+static void trainings(void) {
+    training_is("training of no slab", topjeska_training(0, 0, NULL, 0), 0, 0);
+    training_is("training beyond its number", topjeska_training(0, 1, NULL, 0), 15, 0);
+    training_is("training without a list", topjeska_training(1, 0, NULL, 0), 10, 0);
+    training_is("training without a list", topjeska_training(16, 1, NULL, 0), 10, 0);
+    training_is("training of too many", topjeska_training(17, 0, NULL, 0), 14, 0);
+    training_is("training of the most", topjeska_training(SIZE_MAX, UINT64_MAX, NULL, 0), 14, 0);
+}
+
+/* A draw without a list, and the seed after it. */
+static void draws(size_t n, uint64_t seed, uint64_t refusal, uint64_t after) {
+    topjeska_generator generator = {seed};
+    training_is("draw", topjeska_training_draw(&generator, n, NULL, 0), refusal, 0);
+    seed_is("seed after a draw", generator, after);
+}
+
 int main(void) {
+    trainings();
+    draws(0, 1, 0, 1082269761);
+    draws(0, 0, 15, 0);
+    draws(1, 0, 15, 0);
+    draws(1, 1, 10, 1);
+    draws(17, 0, 14, 0);
+    draws(SIZE_MAX, 1, 14, 1);
     for (size_t n = 0; n <= 2; n += 2)
         for (size_t m = 0; m <= 2; m += 2) {
             checks(n, m);

@@ -19,6 +19,12 @@ int main() {
               topjeska_replay(now.data(), now.size(), goal.data(), goal.size(), lifts.data(),
                               lifts.size()),
               0, 0, 0);
+    topjeska_generator generator = {1};
+    training_is("training", topjeska_training(0, 0, space.data(), space.size()), 0, 0);
+    training_is("draw", topjeska_training_draw(&generator, 0, space.data(), space.size()), 0, 0);
+    seed_is("its seed", generator, 1082269761);
+    training_is("training without a list", topjeska_training(1, 0, space.data(), space.size()), 10,
+                0);
 
     goal.push_back(0);
     check_is("check of unequal lists",

@@ -46,6 +46,16 @@ static void replay_is(const char *what, topjeska_replay_answer got, uint64_t ref
           got.refusal, got.verdict, got.place, 0);
 }
 
+static void training_is(const char *what, topjeska_training_answer got, uint64_t refusal,
+                        uint64_t place) {
+    count(got.refusal == refusal && got.place == place, what, got.refusal, got.place, 0, 0);
+}
+
+/* A generator held to its seed. */
+static void seed_is(const char *what, topjeska_generator got, uint64_t seed) {
+    count(got.seed == seed, what, got.seed, seed, 0, 0);
+}
+
 /* A space held to what it shall hold. */
 static void space_is(const char *what, const uint16_t *space, const uint16_t *expected,
                      size_t len) {

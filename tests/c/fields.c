@@ -1,6 +1,6 @@
 /* Every function, every field and every constant that a function takes or answers by its name, on
- * sheets where two of them exchanged would show. The numbers are document 01's, or counted by hand
- * from its rules. */
+ * sheets where two of them exchanged would show. The numbers are the documents', or counted by hand
+ * from their rules. */
 #include "expect.h"
 
 /* "Now 2 1 5: number 4, place 3", and the same list as the goal, where the number is 7. */
@@ -109,10 +109,62 @@ static void replays(void) {
               TOPJESKA_VERDICT_IDLE, 2);
 }
 
+/* A list lent for an arrangement, and what it holds then: numbers that no arrangement has. */
+enum { LENT = TOPJESKA_MOST_TRAINED + 4, HELD = 0xFFFF };
+static uint16_t out[LENT], held[LENT];
+
+static void lend(void) {
+    memset(out, 0xFF, sizeof out);
+    memset(held, 0xFF, sizeof held);
+}
+
+static void trainings(void) {
+    /* Of the 13 arrangements of three slabs the last: 1 on the highest other top, 3; 2 on 1. */
+    const uint16_t last[] = {3, 1, 0, HELD};
+    const size_t most = TOPJESKA_MOST_TRAINED;
+    lend();
+    training_is("training of a slab too many", topjeska_training(most + 1, 0, out, LENT),
+                TOPJESKA_REFUSAL_TRAINING_SIZE, 0);
+    training_is("training beyond the last", topjeska_training(3, 13, out, 2),
+                TOPJESKA_REFUSAL_TRAINING_NUMBER, 0);
+    training_is("training in a number less", topjeska_training(3, 12, out, 2),
+                TOPJESKA_REFUSAL_SPACE, 0);
+    space_is("list of refused training", out, held, LENT);
+    training_is("training of 3 slabs", topjeska_training(3, 12, out, 4), 0, 0);
+    space_is("the last arrangement", out, last, 4);
+    training_is("training of the most slabs", topjeska_training(most, 0, out, most), 0, 0);
+    space_is("the first arrangement", out, many, most);
+    space_is("the list behind it", out + most, held, LENT - most);
+}
+
+static void draws(void) {
+    /* 1 by the shifts: 8193, 8257, 1082269761. By 73 that leaves 12: below 34 and 13, so slabs 1 and
+     * 2 are grounded; not below 4, and 8 by 3 is 2, so 3 goes on the last of 1, 2 and 4; then 1 is
+     * left beyond 1 way, so 4 goes on the last of 1 and 2. */
+    const uint16_t drawn[] = {0, 0, 4, 2, HELD};
+    topjeska_generator generator = {.seed = 1}, without = {.seed = 0};
+    lend();
+    training_is("draw of a slab too many",
+                topjeska_training_draw(&generator, TOPJESKA_MOST_TRAINED + 1, out, LENT),
+                TOPJESKA_REFUSAL_TRAINING_SIZE, 0);
+    training_is("draw without a seed", topjeska_training_draw(&without, 4, out, 3),
+                TOPJESKA_REFUSAL_TRAINING_NUMBER, 0);
+    training_is("draw in a number less", topjeska_training_draw(&generator, 4, out, 3),
+                TOPJESKA_REFUSAL_SPACE, 0);
+    space_is("list of refused draws", out, held, LENT);
+    seed_is("seed of refused draws", generator, 1);
+    seed_is("seed of a refused generator", without, 0);
+    training_is("draw of 4 slabs", topjeska_training_draw(&generator, 4, out, 5), 0, 0);
+    seed_is("the next seed", generator, 1082269761);
+    space_is("the arrangement drawn", out, drawn, 5);
+}
+
 int main(void) {
     checks();
     plans();
     deadlocks();
     replays();
+    trainings();
+    draws();
     return ended();
 }

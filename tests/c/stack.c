@@ -1,4 +1,4 @@
-/* The stack of every call at 4,000 slabs, held to TOPJESKA_STACK_BYTES. Each call runs in a thread
+/* The stack of every operation at its most slabs, held to TOPJESKA_STACK_BYTES. Each runs in a thread
  * of its own on a painted stack, and what it used is counted from the end of that stack down to
  * where the paint begins: thread and all, so that a thread with TOPJESKA_STACK_BYTES is enough. The
  * answers are held too, so that no call ends early. */
@@ -8,23 +8,29 @@
 
 #include "expect.h"
 
-/* So much stack is lent that a call above the bound is measured and does not crash. */
-enum { SLABS = TOPJESKA_MOST_SLABS, PAINT = 0xA5, PAGE = 4096, LENT = 1 << 20 };
+enum { SLABS = TOPJESKA_MOST_SLABS, TRAINED = TOPJESKA_MOST_TRAINED };
 
-/* The operations, and the most bytes that a call of each used. */
-enum { CHECK, REPLAY, PLAN, DEADLOCK, OPERATIONS };
-static const char *const names[OPERATIONS] = {"check", "replay", "planning", "deadlock test"};
+/* So much stack is lent that a call above the bound is measured and does not crash. */
+enum { PAINT = 0xA5, PAGE = 4096, LENT = 1 << 20 };
+
+/* The operations, those on sheets first, and the most bytes that each used. */
+enum { CHECK, REPLAY, PLAN, DEADLOCK, TRAINING, OPERATIONS };
+static const char *const names[OPERATIONS] = {"check", "replay", "planning", "deadlock test",
+                                              "training"};
 static size_t most[OPERATIONS];
 
 /* What the calls are lent, and their answers. */
 static uint16_t now[SLABS + 1], goal[SLABS + 1], space[TOPJESKA_PLAN_SPACE(SLABS)], method;
 static size_t n = SLABS, lifts_len;
+static uint64_t number;
+static topjeska_generator generator;
 static topjeska_check_answer check_answer;
 static topjeska_plan_answer plan_answer;
 static topjeska_deadlock_answer deadlock_answer;
 static topjeska_replay_answer replay_answer;
+static topjeska_training_answer training_answer, draw_answer;
 
-/* One call, as a thread. */
+/* One operation, as a thread; training by both its functions, to now and to the goal. */
 static void *call(void *operation) {
     switch (*(const int *)operation) {
     case CHECK:
@@ -39,11 +45,15 @@ static void *call(void *operation) {
     case DEADLOCK:
         deadlock_answer = topjeska_deadlock(now, n, goal, n, space, TOPJESKA_DEADLOCK_SPACE(SLABS));
         break;
+    case TRAINING:
+        training_answer = topjeska_training(n, number, now, TRAINED);
+        draw_answer = topjeska_training_draw(&generator, n, goal, TRAINED);
+        break;
     }
     return NULL;
 }
 
-/* Runs a call on a painted stack, and keeps how much it used. */
+/* Runs an operation on a painted stack, and keeps how much it used. */
 static void measure(int operation) {
     static void *stack;
     pthread_attr_t attributes;
@@ -83,10 +93,10 @@ static void answered(const char *name, uint64_t put_down, uint64_t built, uint64
     space_is(name, space, front, 4);
 }
 
-/* Every operation refused. */
+/* Every operation on sheets refused. */
 static void refused(const char *name, uint64_t refusal, uint64_t place) {
     method = TOPJESKA_METHOD_GN2;
-    for (int operation = 0; operation < OPERATIONS; operation++)
+    for (int operation = CHECK; operation <= DEADLOCK; operation++)
         measure(operation);
     check_is(name, check_answer, refusal, place);
     plan_is(name, plan_answer, refusal, place, 0, 0);
@@ -142,11 +152,30 @@ static void faulty(void) {
     refused("a slab too many", TOPJESKA_REFUSAL_TOO_MANY, 0);
 }
 
+/* The last arrangement of the most slabs, where each slab rests on the highest other top there is,
+ * and what the seed 1 draws; then a slab too many. */
+static void training(void) {
+    const uint16_t last[] = {16, 15, 14, 13, 12, 11, 10, 9, 7, 6, 5, 4, 3, 2, 1, 0};
+    const uint16_t drawn[] = {0, 0, 0, 0, 0, 0, 0, 2, 5, 1, 0, 9, 10, 0, 6, 13};
+    number = 1290434218669920;
+    generator.seed = 1;
+    for (n = TRAINED; n <= TRAINED + 1; n++) {
+        uint64_t refusal = n == TRAINED ? 0 : TOPJESKA_REFUSAL_TRAINING_SIZE;
+        measure(TRAINING);
+        training_is("training", training_answer, refusal, 0);
+        training_is("draw", draw_answer, refusal, 0);
+        seed_is("seed", generator, 1082269761);
+        space_is("last arrangement", now, last, TRAINED);
+        space_is("arrangement drawn", goal, drawn, TRAINED);
+    }
+}
+
 int main(void) {
     turned_over();
     ring();
     many_deadlocks();
     faulty();
+    training();
     for (int operation = 0; operation < OPERATIONS; operation++) {
         printf("stack of %s: %zu bytes\n", names[operation], most[operation]);
         count(most[operation] < TOPJESKA_STACK_BYTES, names[operation], most[operation],

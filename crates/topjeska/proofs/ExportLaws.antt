@@ -1,9 +1,10 @@
 -- The exported answers are those of the library, case by case. Assumes nothing.
 use Prim.Native.Nat.{ℕ}
-use mathlib.Core.Path.{_≡_, refl, sym, ap, _∙_}
+use mathlib.Core.Path.{_≡_, refl, sym, ap, _∙_, subst}
 use mathlib.Core.Logic.{_≢_}
 use mathlib.Core.List.{List}
 use native.Mathlib.Omega.{arith}
+use lib.ListN.{take}
 use Rattle.blocks.specs.State.{State}
 use Rattle.blocks.specs.Loop.{memberᵇ}
 use Rattle.blocks.specs.Question.{PlanRefused, planQuestions, DeadlockRefused, deadlockQuestions}
@@ -19,8 +20,15 @@ use Rattle.deadlocks.specs.Answers as deadlocks
 use Rattle.deadlocks.specs.declared.Tested as tested
 use Rattle.validator.specs.Replayed as validator
 use Rattle.validator.specs.declared.Replayed as replayed
-use Rattle.topjeska.specs.Exports.{asCheck, asReplay, ExportsPlan, ExportsDeadlock, ExportsReplay}
+use Rattle.training.specs.Numbering.{IsState}
+use Rattle.training.specs.Training.{trainAnswer, drawAnswer}
+use Rattle.training.specs.Answers as training
+use Rattle.training.specs.declared.Trained as trained
+use Rattle.training.specs.declared.Drawn as drawn
+use Rattle.training.proofs.Theorems.{promises}
+use Rattle.topjeska.specs.Exports.{asCheck, asReplay, ExportsPlan, ExportsDeadlock, ExportsReplay, asTraining, ExportsTraining, ExportsDraw}
 use Rattle.topjeska.specs.declared.ReplayAnswer.{ReplayAnswer}
+use Rattle.topjeska.specs.declared.TrainingAnswer.{TrainingAnswer}
 
 -- ---- checking
 
@@ -90,3 +98,34 @@ module _ {s g : State} {lifts : List ℕ} {r : replayed.Replayed} (w : validator
 
   pub replay-judged : {v p : ℕ} → r ≡ replayed.the-variants.Judged v p → ExportsReplay s g lifts (record { refusal = 0; verdict = v; place = p })
   replay-judged e = replay-exported (ap validator.answerOf (sym e) ∙ w .answer)
+
+-- ---- training
+
+pub training-refused : {t : trained.Trained} {k p : ℕ} → t ≡ trained.the-variants.Refused k p → asTraining (record { refusal = k; place = p }) ≡ training.answerOf t
+training-refused e = ap training.answerOf (sym e)
+
+pub training-written : {t : trained.Trained} → t ≡ trained.the-variants.Written → asTraining (record { refusal = 0; place = 0 }) ≡ training.answerOf t
+training-written e = ap training.answerOf (sym e)
+
+pub training-exported : {n r : ℕ} {space space′ : List ℕ} {t : trained.Trained} {a : TrainingAnswer} → training.Trains n r space t space′
+    → asTraining a ≡ training.answerOf t → ExportsTraining n r space a space′
+training-exported {n} {r} {space} {a = a} w e =
+    let same : asTraining a ≡ trainAnswer n r space = e ∙ w .answer in
+    record {
+      answer = same;
+      lent = w .lent;
+      state = λ z. subst (λ l. IsState n (take n l)) (sym (w .lent)) (promises .train-writes n r space (sym (ap (λ b. b .number) same) ∙ z));
+    }
+
+pub draw-exported : {n seed : ℕ} {space space′ : List ℕ} {d : drawn.Drawn} {a : TrainingAnswer} → training.Draws n seed space d space′
+    → asTraining a ≡ training.answerOf (d .trained) → ExportsDraw n seed space (record { answer = a; seed = d .generator .seed }) space′
+draw-exported {n} {seed} {space} {a = a} w e =
+    let same : asTraining a ≡ drawAnswer n seed space = e ∙ w .answer in
+    let answered : a .refusal ≡ 0 → (drawAnswer n seed space) .number ≡ 0 = λ z. sym (ap (λ b. b .number) same) ∙ z in
+    record {
+      answer = same;
+      lent = w .lent;
+      advanced = w .advanced;
+      state = λ z. subst (λ l. IsState n (take n l)) (sym (w .lent)) (promises .draw-writes n seed space (answered z) .0);
+      lasts = λ z. subst (λ x. x ≢ 0) (sym (w .advanced)) (promises .draw-writes n seed space (answered z) .1);
+    }

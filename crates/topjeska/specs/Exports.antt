@@ -16,7 +16,11 @@ use Rattle.blocks.specs.Demands.{Promise, NoDeadlock, Shown}
 use Rattle.topjeska.specs.declared.CheckAnswer.{CheckAnswer}
 use Rattle.topjeska.specs.declared.PlanAnswer.{PlanAnswer}
 use Rattle.topjeska.specs.declared.DeadlockAnswer.{DeadlockAnswer}
+use Rattle.training.specs.Numbering.{IsState}
+use Rattle.training.specs.Training.{trainAnswer, trainSpace, drawAnswer, drawSpace, drawSeed}
 use Rattle.topjeska.specs.declared.ReplayAnswer.{ReplayAnswer}
+use Rattle.topjeska.specs.declared.TrainingAnswer.{TrainingAnswer}
+use Rattle.topjeska.specs.declared.DrawAnswer.{DrawAnswer}
 
 abbrev pub asCheck : CheckAnswer → answer.CheckAnswer
 asCheck r = record { number = r .refusal; place = r .place }
@@ -29,6 +33,9 @@ asDeadlock r = record { number = r .refusal; place = r .place; count = r .count 
 
 abbrev pub asReplay : ReplayAnswer → answer.ReplayAnswer
 asReplay r = record { number = r .refusal; verdict = r .verdict; place = r .place }
+
+abbrev pub asTraining : TrainingAnswer → answer.CheckAnswer
+asTraining r = record { number = r .refusal; place = r .place }
 
 -- Planning: the answer that the definition gives, the lent space whole; and of the list that is written that the method's words give it, and demand 3.
 pub record ExportsPlan (m : ℕ) (s g : State) (space : List ℕ) (r : PlanAnswer) (space′ : List ℕ) : Type 0 where
@@ -49,3 +56,17 @@ pub record ExportsDeadlock (s g : State) (space : List ℕ) (r : DeadlockAnswer)
 pub record ExportsReplay (s g : State) (lifts : List ℕ) (r : ReplayAnswer) : Type 0 where
   pub answer : asReplay r ≡ replayAnswer s g lifts
   pub arrives : (r .verdict ≡ 0) ↔ (Accepted s g × (length lifts % 2 ≡ 0) × Solves s g (moves lifts))
+
+-- Training from a number: the answer that the definition gives, the lent list whole; and that questions 4 to 6 accept what is written.
+pub record ExportsTraining (n r : ℕ) (space : List ℕ) (a : TrainingAnswer) (space′ : List ℕ) : Type 0 where
+  pub answer : asTraining a ≡ trainAnswer n r space
+  pub lent : space′ ≡ trainSpace n r space
+  pub state : a .refusal ≡ 0 → IsState n (take n space′)
+
+-- Training from a generator: the same, and its new seed, which is not zero where a state was drawn.
+pub record ExportsDraw (n seed : ℕ) (space : List ℕ) (a : DrawAnswer) (space′ : List ℕ) : Type 0 where
+  pub answer : asTraining (a .answer) ≡ drawAnswer n seed space
+  pub lent : space′ ≡ drawSpace n seed space
+  pub advanced : a .seed ≡ drawSeed n seed space
+  pub state : a .answer .refusal ≡ 0 → IsState n (take n space′)
+  pub lasts : a .answer .refusal ≡ 0 → a .seed ≢ 0

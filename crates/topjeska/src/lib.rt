@@ -1,10 +1,13 @@
-// What C and Rust link: the four operations with answers of plain numbers. include/topjeska.h declares them.
+// What C and Rust link: the operations with answers of plain numbers. include/topjeska.h declares them.
 ghost use mathlib.Core.Path.{_≡_};
 ghost use Rattle.blocks.specs.Answer.{checkAnswer};
-ghost use Rattle.topjeska.specs.Exports.{asCheck, ExportsPlan, ExportsDeadlock, ExportsReplay};
+ghost use Rattle.training.specs.Answers.{answerOf};
+ghost use Rattle.topjeska.specs.Exports.{asCheck, ExportsPlan, ExportsDeadlock, ExportsReplay, asTraining, ExportsTraining, ExportsDraw};
 use deadlocks::Tested;
+use generator::Generator;
 use planner::Planned;
 use problem::Checked;
+use training::Trained;
 use validator::Replayed;
 
 #[repr(C)]
@@ -33,6 +36,18 @@ pub struct ReplayAnswer {
     pub refusal: u64,
     pub verdict: u64,
     pub place: u64,
+}
+
+#[repr(C)]
+pub struct TrainingAnswer {
+    pub refusal: u64,
+    pub place: u64,
+}
+
+// What a draw answers, and the seed that it leaves.
+struct DrawAnswer {
+    answer: TrainingAnswer,
+    seed: u64,
 }
 
 // What a refused replay has in place of a verdict.
@@ -128,6 +143,58 @@ pub extern "C" fn topjeska_replay(initial: &[u16], goal: &[u16], lifts: &[u16]) 
             refusal: 0,
             verdict: verdict as u64,
             place: place as u64,
+        },
+    }
+}
+
+// Training: the state of a number, written over the first n entries of the lent list.
+#[no_mangle]
+pub extern "C" fn topjeska_training(n: usize, r: u64, state: &mut [u16]) -> TrainingAnswer
+    ensures { λ a. ⌜ ExportsTraining n r (now (state .entry)) a (now (state .exit)) ⌝ }
+{
+    let trained = training::train(n, r, state);
+    in_numbers(trained)
+}
+
+// Training: the state of the number that the lent generator draws, which moves on; a refusal leaves it as it was.
+#[no_mangle]
+pub extern "C" fn topjeska_training_draw(
+    generator: &mut Generator,
+    n: usize,
+    state: &mut [u16],
+) -> TrainingAnswer
+    ensures { λ a. ⌜ ExportsDraw n (now (generator .entry) .seed) (now (state .entry)) (record { answer = a; seed = now (generator .exit) .seed }) (now (state .exit)) ⌝ }
+{
+    let draw = draw_from(generator.seed, n, state);
+    generator.seed = draw.seed;
+    draw.answer
+}
+
+// The draw by value: from a seed to the next.
+fn draw_from(seed: u64, n: usize, state: &mut [u16]) -> DrawAnswer
+    ensures { λ a. ⌜ ExportsDraw n seed (now (state .entry)) a (now (state .exit)) ⌝ }
+{
+    let drawn = training::draw(Generator { seed }, n, state);
+    let trained = drawn.trained;
+    let generator = drawn.generator;
+    DrawAnswer {
+        answer: in_numbers(trained),
+        seed: generator.seed,
+    }
+}
+
+// The answer in document 01's numbers.
+fn in_numbers(trained: Trained) -> TrainingAnswer
+    ensures { λ a. ⌜ asTraining a ≡ answerOf trained ⌝ }
+{
+    match trained {
+        Trained::Refused { number, place } => TrainingAnswer {
+            refusal: number as u64,
+            place: place as u64,
+        },
+        Trained::Written => TrainingAnswer {
+            refusal: 0,
+            place: 0,
         },
     }
 }

@@ -1,6 +1,7 @@
-//! Sheets of document 01 through the library: their lifts, their deadlocks, a replay and a refusal.
+//! Sheets of document 01 through the library: their lifts, their deadlocks, a replay and a refusal; then a training
+//! sheet.
 
-use topjeska::{check, deadlock, plan, replay, Method, ReplayError, Verdict};
+use topjeska::{check, deadlock, plan, replay, Generator, Method, ReplayError, Verdict};
 
 fn main() -> Result<(), ReplayError> {
     let sheets: [(&str, &[u16], &[u16]); 3] = [
@@ -9,15 +10,7 @@ fn main() -> Result<(), ReplayError> {
         ("S5", &[2, 3, 0, 5, 0], &[5, 0, 0, 3, 2]),
     ];
     for (name, now, goal) in sheets {
-        check(now, goal)?;
-        let made = plan(Method::Gn1, now, goal)?;
-        println!("{name} lifts{}", listed(&made.lifts, "->"));
-        println!("{name} changed {}", made.changed);
-        println!("{name} deadlock{}", listed(&deadlock(now, goal)?, " "));
-        match replay(now, goal, &made.lifts)? {
-            Verdict::Arrives => println!("{name} arrives"),
-            other => println!("{name} does not arrive: {other:?}"),
-        }
+        show(name, now, goal)?;
     }
     let (_, now, goal) = sheets[0];
     match replay(now, goal, &[])? {
@@ -27,6 +20,27 @@ fn main() -> Result<(), ReplayError> {
     match plan(Method::Us, &[2, 1, 5], &[0, 0, 0]) {
         Err(refusal) => println!("2 1 5: {refusal}"),
         Ok(made) => println!("2 1 5: {made:?}"),
+    }
+    let mut generator = Generator::new(7);
+    let (mut now, mut goal) = ([0; 5], [0; 5]);
+    for (which, out) in [("now", &mut now), ("goal", &mut goal)] {
+        generator.draw(5, out)?;
+        let entries = out.map(|entry| entry.to_string()).join(" ");
+        println!("seed 7 {which} {entries}");
+    }
+    show("seed 7", &now, &goal)
+}
+
+/// Prints what the library says of a sheet.
+fn show(name: &str, now: &[u16], goal: &[u16]) -> Result<(), ReplayError> {
+    check(now, goal)?;
+    let made = plan(Method::Gn1, now, goal)?;
+    println!("{name} lifts{}", listed(&made.lifts, "->"));
+    println!("{name} changed {}", made.changed);
+    println!("{name} deadlock{}", listed(&deadlock(now, goal)?, " "));
+    match replay(now, goal, &made.lifts)? {
+        Verdict::Arrives => println!("{name} arrives"),
+        other => println!("{name} does not arrive: {other:?}"),
     }
     Ok(())
 }
