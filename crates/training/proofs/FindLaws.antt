@@ -1,6 +1,6 @@
 -- A scan for number q of the passing numbers: what the loop knows that has passed the numbers from 1 to i, c of which pass. Assumes nothing.
 use mathlib.Core.Path.{_≡_, refl, sym, ap, _∙_, subst}
-use mathlib.Core.Bool.{Bool, true, false, not, _&&_}
+use mathlib.Core.Bool.{Bool, true, false, not, _&&_, Bool·not-not}
 use Prim.Native.Nat.{ℕ, suc, pred, _+_, _≤_, _<_}
 use native.Mathlib.Nat.{add-zero}
 use native.Mathlib.Numerals.{add-one}
@@ -11,13 +11,8 @@ use Rattle.lists.proofs.ScanLaws.{Scanned, scan-begin, scan-next, scan-found, s
 use Rattle.training.specs.Arrangement.{nth}
 
 -- what a negated test said
-failed : (u : Bool) → not u ≡ true → u ≡ false
-failed true e = sym e
-failed false e = refl
-
-passed : (u : Bool) → not u ≡ false → u ≡ true
-passed true e = refl
-passed false e = sym e
+unnegated : (u : Bool) {v : Bool} → not u ≡ v → u ≡ not v
+unnegated u e = sym (Bool·not-not u) ∙ ap not e
 
 -- number q and no other
 abbrev isᵇ : (ℕ → Bool) → ℕ → ℕ → Bool
@@ -39,22 +34,22 @@ module _ (P : ℕ → Bool) (n q : ℕ) where
     -- it is number q
     pub find-is : not u ≡ false → c ≡ q → i + 1 ≡ nth P n q
     unfolding nth
-    find-is e f = scan-found (w .scanned) l (rw (here ∙ passed u e) (to-true (eqb-reflects (count P i) q) (sym (w .counted .is) ∙ f)))
+    find-is e f = scan-found (w .scanned) l (rw (here ∙ unnegated u e) (to-true (eqb-reflects (count P i) q) (sym (w .counted .is) ∙ f)))
 
     -- it passes and is another
     pub find-past : not u ≡ false → ¬ (c ≡ q) → Finding P n q (i + 1) (c + 1)
     find-past e f =
         record {
-          counted = counted-next true (w .counted) l (sym (here ∙ passed u e));
-          scanned = scan-next (w .scanned) l (rw (here ∙ passed u e) (to-false (eqb-reflects (count P i) q) (λ g. f (w .counted .is ∙ g))));
+          counted = counted-next true (w .counted) l (sym (here ∙ unnegated u e));
+          scanned = scan-next (w .scanned) l (rw (here ∙ unnegated u e) (to-false (eqb-reflects (count P i) q) (λ g. f (w .counted .is ∙ g))));
         }
 
     -- it does not pass
     pub find-over : not u ≡ true → Finding P n q (i + 1) c
     find-over e =
         record {
-          counted = subst (λ x. Counted P n x (i + 1)) (add-zero c) (counted-next false (w .counted) l (sym (here ∙ failed u e)));
-          scanned = scan-next (w .scanned) l (rw (here ∙ failed u e) refl);
+          counted = subst (λ x. Counted P n x (i + 1)) (add-zero c) (counted-next false (w .counted) l (sym (here ∙ unnegated u e)));
+          scanned = scan-next (w .scanned) l (rw (here ∙ unnegated u e) refl);
         }
 
   pub find-few : {i c : ℕ} → Finding P n q i c → c ≤ i

@@ -1,6 +1,6 @@
 -- A tower whose bottom block b rests on the table is put on the top t of another tower: the state stays proper, and t is the only block that is no longer clear.
 -- Idea: the way down from t does not meet b, since b's tower has one top. Assumes nothing.
-use mathlib.Core.Path.{_≡_, refl, sym, ap, _∙_}
+use mathlib.Core.Path.{_≡_, refl, sym, ap, _∙_, subst}
 use mathlib.Core.Logic.{_⊎_, inl, inr, _≢_}
 use Prim.Native.Nat.{ℕ, zero, suc, _≤_}
 use native.Mathlib.Omega.{arith}
@@ -24,29 +24,22 @@ unfolding otherTopᵇ
 other-reflects s b t = reflects-and (clear-test s t) (reflects-not (eqb-reflects t (top s (length s) b)))
 
 module _ {s : State} (p : Proper s) {b : ℕ} (w : Block s b) where
-  -- b's tower has a top, which is a block
+  -- b's tower has a top
   pub own : Clear s (top s (length s) b) × Reaches s (top s (length s) b) b
   own = top-clear (record { initial = p; goal = p; same = refl }) b (λ e. absurd (omega (arith, w .low))) (w .high)
 
-  own-low : 1 ≤ top s (length s) b
-  own-low = by (same? (top s (length s) b) 0)
+  own-block : Block s (top s (length s) b)
+  own-block = by (own .1 .0) (own .1 .1)
     where
-      by : (top s (length s) b ≡ 0) ⊎ (¬ (top s (length s) b ≡ 0)) → 1 ≤ top s (length s) b
-      by (inl e) = let z : b ≡ 0 = sym (own .1 .1) ∙ ap (down s (own .1 .0)) e ∙ down-table s (own .1 .0) in absurd (omega (arith, w .low))
-      by (inr n) = omega (arith, n)
-
-  own-high : top s (length s) b ≤ length s
-  own-high = by (own .1 .0) (own .1 .1)
-    where
-      by : (k : ℕ) → down s k (top s (length s) b) ≡ b → top s (length s) b ≤ length s
-      by zero e = omega (arith, w .high)
+      by : (k : ℕ) → down s k (top s (length s) b) ≡ b → Block s (top s (length s) b)
+      by zero e = subst (Block s) (sym e) w
       by (suc k) e =
-          supported-block s (top s (length s) b) (λ z. let none : b ≡ 0 = sym e ∙ ap (down s k) z ∙ down-table s k in absurd (omega (arith, w .low))) .high
+          supported-block s (top s (length s) b) (λ z. let none : b ≡ 0 = sym e ∙ ap (down s k) z ∙ down-table s k in absurd (omega (arith, w .low)))
 
   -- one of the tops is b's own
   pub others-count : count (clearᵇ s) (length s) ≡ suc (count (otherTopᵇ s b) (length s))
   others-count =
-      count-one-more (clearᵇ s) (otherTopᵇ s b) (length s) (top s (length s) b) own-low own-high
+      count-one-more (clearᵇ s) (otherTopᵇ s b) (length s) (top s (length s) b) (own-block .low) (own-block .high)
       (to-true (clear-test s (top s (length s) b)) (own .0))
       (to-false (other-reflects s b (top s (length s) b)) (λ h. h .1 refl))
       (λ c l h n. reflects-same (λ k. (k, n)) (λ k. k .0) (clear-test s c) (other-reflects s b c))

@@ -68,7 +68,7 @@ pub record Numbers : Type 0 where
   pub of-four : states 4 ≡ four
   -- the last of the 501 states of five blocks
   pub last-of-five : (ways 5 0 ≡ 501) × (arrangement 5 500 ≡ 5 ∷ 4 ∷ 2 ∷ 1 ∷ 0 ∷ [])
-  -- the counts that document 001 and the acceptance tests state
+  -- how many states three blocks have, and sixteen
   pub counted : (ways 3 0 ≡ 13) × (ways 16 0 ≡ 1290434218669921)
 
 -- A list of so many entries that no state has.
