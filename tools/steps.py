@@ -63,7 +63,7 @@ class Told(NamedTuple):
     counts: dict[int, int]
 
     def floor(self) -> int:
-        """No list that arrives is shorter: theorems `lower-bound` and `Promise.costs`."""
+        """No list that arrives is shorter: theorems `HeadCount.floor` and `Promise.costs`."""
         return len(self.misplaced) + bool(self.ring)
 
 

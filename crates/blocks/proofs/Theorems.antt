@@ -9,10 +9,10 @@ use lib.ListN.{length}
 use Rattle.lists.specs.Search.{Counts}
 use Rattle.blocks.specs.State.{State, support, down}
 use Rattle.blocks.specs.Position.{Proper, Problem, InPosition, Misplaced}
-use Rattle.blocks.specs.Move.{Plan}
+use Rattle.blocks.specs.Move.{Plan, Solves}
 use Rattle.blocks.specs.Tests.{misplacedᵇ, changed, misplacedCount}
-use Rattle.blocks.specs.Method.{Method, plan, outcome}
-use Rattle.blocks.specs.Demands.{Promise, Economy, Theorems}
+use Rattle.blocks.specs.Method.{Method, Us, Gn1, plan, outcome}
+use Rattle.blocks.specs.Demands.{NoDeadlock, Fewest, HeadCount, Promise, Economy, Theorems}
 use Rattle.lists.proofs.ReflectLaws.{Reflects, from-true, to-true, reflects-not, eqb-reflects}
 use Rattle.lists.proofs.SearchLaws.{count-counts}
 use Rattle.blocks.proofs.GroundLaws as ground
@@ -78,6 +78,27 @@ misplaced-counts : (s g : State) → Proper s → Counts (Misplaced s g) (length
 unfolding misplacedCount
 misplaced-counts s g p = count-counts (Misplaced s g) (misplacedᵇ s g) (positions.misplaced-test s g p) (length s)
 
+-- without a deadlock method 2 moves each misplaced block once; with one, every plan has a move more
+head-count : (s g : State) → Problem s g → HeadCount s g (misplacedCount s g)
+head-count s g q =
+    record {
+      counts = misplaced-counts s g (q .initial);
+      floor = least;
+      fewest = (none, λ free. record { some = once free; least = least });
+    }
+  where
+    none : Fewest s g (misplacedCount s g) → NoDeadlock s g
+    none f l k = omega (arith, f .some .2, bounds.deadlock-costs (f .some .0) q (f .some .1) (k .holds))
+
+    least : (r : Plan) → Solves s g r → misplacedCount s g ≤ length r
+    least r h = bounds.lower-bound r q h
+
+    other : Gn1 ≢ Us
+    other e = let z : _≡_ {A = ℕ} 0 1 = cc in omega arith
+
+    once : NoDeadlock s g → (r : Plan) × Solves s g r × (length r ≡ misplacedCount s g)
+    once free = let w = method-written Gn1 s g q in (w .0, w .2 .solves, w .2 .once other free)
+
 pub theorems : Theorems
 theorems =
     record {
@@ -110,7 +131,6 @@ theorems =
       replay-answers = answers.replay-answers;
       never-13 = answers.never-13;
       changed-counts = changed-counts;
-      misplaced-counts = misplaced-counts;
       pairs-back = flats.pairs-back;
       pairs-forth = flats.pairs-forth;
       methods = method-told;
@@ -135,5 +155,5 @@ theorems =
       written-solves = answers.written-solves;
       plan-fits = plan-fits;
       moves-all = λ s g p q. moved.moves-all q s g;
-      lower-bound = λ s g p q. bounds.lower-bound q p;
+      head-count = head-count;
     }

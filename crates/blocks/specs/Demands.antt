@@ -26,6 +26,20 @@ use Rattle.blocks.specs.Answer.{flat, moves, checkAnswer, planAnswer, pl
 abbrev pub NoDeadlock : State → State → Type 0
 NoDeadlock s g = (blocks : List ℕ) → ¬ Deadlocked s g blocks
 
+-- The fewest moves that could do: some legal plan that arrives has so many, and none has fewer.
+pub record Fewest (s g : State) (k : ℕ) : Type 0 where
+  pub some : (q : Plan) × Solves s g q × (length q ≡ k)
+  pub least : (q : Plan) → Solves s g q → k ≤ length q
+
+-- What the count of misplaced blocks promises. Document 02, Job 2: "Crews take the second field of PL as the fewest lifts that could do."
+pub record HeadCount (s g : State) (k : ℕ) : Type 0 where
+  -- so many blocks are misplaced at the start;
+  pub counts : Counts (Misplaced s g) (length s) k
+  -- no legal plan that arrives is shorter;
+  pub floor : (q : Plan) → Solves s g q → k ≤ length q
+  -- and it is the fewest exactly when nothing is deadlocked at the start.
+  pub fewest : Fewest s g k ↔ NoDeadlock s g
+
 -- Demand 3 of a plan p that method m writes.
 pub record Promise (m : Method) (s g : State) (p : Plan) : Type 0 where
   -- "Every list written for an accepted sheet is legal and arrives."
@@ -107,7 +121,6 @@ pub record Theorems : Type 0 where
   pub never-13 : (m : ℕ) (s g : State) (space : List ℕ) (p : ℕ) → ¬ PlanRefused m s g space 13 p
   -- ---- the counts, and lists of numbers as lists of moves
   pub changed-counts : (s g : State) → Counts (λ b. support s b ≢ support g b) (length s) (changed s g)
-  pub misplaced-counts : (s g : State) → Proper s → Counts (Misplaced s g) (length s) (misplacedCount s g)
   pub pairs-back : (p : Plan) → moves (flat p) ≡ p
   pub pairs-forth : (l : List ℕ) → length l % 2 ≡ 0 → flat (moves l) ≡ l
   -- ---- demand 2: the lists of the methods
@@ -153,4 +166,4 @@ pub record Theorems : Type 0 where
   pub plan-fits : (m : Method) (s g : State) → Problem s g → (p : Plan) → outcome m s g ≡ plan p → 2 * length p ≤ 4 * length s
   -- every legal plan that arrives moves every misplaced block, and so has at least as many moves
   pub moves-all : (s g : State) → Problem s g → (q : Plan) → Solves s g q → (b : ℕ) → Misplaced s g b → Moved b q
-  pub lower-bound : (s g : State) → Problem s g → (q : Plan) → Solves s g q → misplacedCount s g ≤ length q
+  pub head-count : (s g : State) → Problem s g → HeadCount s g (misplacedCount s g)

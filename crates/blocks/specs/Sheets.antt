@@ -9,6 +9,7 @@ use Rattle.blocks.specs.Position.{Problem, Accepted}
 use Rattle.blocks.specs.Tests.{misplacedCount}
 use Rattle.blocks.specs.Method.{Method, numberOf}
 use Rattle.blocks.specs.Answer.{checkAnswer, planAnswer, planSpace, deadlockAnswer, deadlockSpace, replayAnswer}
+use Rattle.blocks.specs.Demands.{Fewest}
 
 -- One claim of a table. A method goes by its number, and lists of lifts are written as the operations write them: slab, destination.
 pub data Claim : Type 0 where
@@ -17,6 +18,7 @@ pub data Claim : Type 0 where
   shows : State → State → List ℕ → Claim  -- the deadlock test writes these pairs; none, where there is no deadlock
   changes : State → State → ℕ → Claim  -- so many entries differ
   misplaces : State → State → ℕ → Claim  -- so many slabs are misplaced
+  needs : State → State → ℕ → Claim  -- the fewest lifts that could do
   replays : State → State → List ℕ → ℕ → ℕ → Claim  -- the list has this verdict and place
   refuses : State → ℕ → ℕ → Claim  -- with goals all 0 and as long: number and place
   refusesBoth : State → State → ℕ → ℕ → Claim  -- number and place of a check of both lists
@@ -44,6 +46,7 @@ Holds (shows s g l) =
     × ((deadlockAnswer s g (lent (2 * length s))) .number ≡ 0)
 Holds (changes s g c) = ((planAnswer 1 s g (lent (4 * length s))) .changed ≡ c) × ((planAnswer 1 s g (lent (4 * length s))) .number ≡ 0)
 Holds (misplaces s g c) = misplacedCount s g ≡ c
+Holds (needs s g k) = Fewest s g k
 Holds (replays s g l v p) = replayAnswer s g l ≡ record { number = 0; verdict = v; place = p }
 Holds (refuses s k p) = checkAnswer s (replicate (length s) 0) ≡ record { number = k; place = p }
 Holds (refusesBoth s g k p) = checkAnswer s g ≡ record { number = k; place = p }
@@ -173,6 +176,8 @@ counts =
     changes S5now S5goal 4 ∷
     changes (3 ∷ 1 ∷ 0 ∷ 5 ∷ 0 ∷ []) (3 ∷ 1 ∷ 4 ∷ 5 ∷ 0 ∷ []) 1 ∷
     changes (0 ∷ 1 ∷ 2 ∷ []) (0 ∷ 1 ∷ 2 ∷ []) 0 ∷
+    -- two slabs of S6 are misplaced, and nobody can do with two lifts
+    needs S6now S6goal 3 ∷
     []
 
 -- Each verdict of replay with its place, on S2 and S4.
