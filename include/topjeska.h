@@ -20,9 +20,9 @@ extern "C" {
 
 /* ---- version, of this header and of the library beside it */
 
-#define TOPJESKA_VERSION "0.2.0"
+#define TOPJESKA_VERSION "0.3.0"
 #define TOPJESKA_VERSION_MAJOR 0
-#define TOPJESKA_VERSION_MINOR 2
+#define TOPJESKA_VERSION_MINOR 3
 #define TOPJESKA_VERSION_PATCH 0
 
 /* ---- limits and memory */
@@ -147,9 +147,12 @@ typedef struct {
     uint64_t refusal, place;
 } topjeska_check_answer;
 
-/* The count of lifts written, and `changed`, the count of slabs whose now and goal entries differ. */
+/* The count of lifts written, and `misplaced`, the count of slabs that are misplaced at the start.
+ * No list that arrives has fewer lifts than that. It is the fewest lifts that could do exactly when
+ * nothing is deadlocked at the start: with a deadlock every list that arrives has more (theorem
+ * `head-count`). */
 typedef struct {
-    uint64_t refusal, place, count, changed;
+    uint64_t refusal, place, count, misplaced;
 } topjeska_plan_answer;
 
 /* The count of deadlocked slabs written; 0 where there is no deadlock. */

@@ -88,9 +88,9 @@ def misread() -> list[str]:
             wrong.append(f"too little space for {now} / {goal}")
         if loop is not None and read(testing(now, goal)) != ((0, 0, len(loop)), loop):
             wrong.append(f"deadlock of {now} / {goal}")
-    for now, goal, lifts, differing in sheets.COUNTS:
-        (_, _, count, changed), _ = read(planning(1, now, goal))
-        if lifts not in (None, count) or differing not in (None, changed):
+    for now, goal, lifts, astray in sheets.COUNTS:
+        (_, _, count, misplaced), _ = read(planning(1, now, goal))
+        if lifts not in (None, count) or astray not in (None, misplaced):
             wrong.append(f"counts of {now} / {goal}")
     return wrong
 
@@ -99,10 +99,10 @@ def broken(now: Yard, goal: Yard) -> list[str]:
     """Where the reading breaks demands 2 and 3 on a small accepted sheet, by search; empty when it keeps them."""
     sheet, wrong = promises.searched(now, goal), []
     for case in by_all(now, goal):
-        (number, _, count, *_), pairs = read(case)
-        if number != 0 or count != len(pairs):
+        numbers, pairs = read(case)
+        if numbers[0] != 0 or numbers[2] != len(pairs):
             wrong.append(f"{case.operation} is refused, or counts other pairs")
-        wrong += promises.unkept(sheet, case, pairs)
+        wrong += promises.unkept(sheet, case, numbers, pairs)
     return [f"{now} / {goal}: {sentence}" for sentence in wrong]
 
 
@@ -356,9 +356,8 @@ def larger_plans() -> Iterator[Case]:
 
 def known_answers(known: Known) -> Iterator[tuple[Case, str]]:
     """The cases of a sheet in closed form with their answers."""
-    differing = reading.changed(known.now, known.goal)
     for case in by_all(known.now, known.goal):
-        pairs, more = (known.pairs(case.method), [differing]) if case.operation == "plan" else (known.loop, [])
+        pairs, more = (known.pairs(case.method), [known.misplaced()]) if case.operation == "plan" else (known.loop, [])
         yield case, as_line(0, 0, len(pairs), *more, *space_after(case.space, pairs))
 
 

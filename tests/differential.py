@@ -55,6 +55,7 @@ LONG = 70_000
 SHOWN = 10
 WIDEST = 4096
 PATIENCE = 60.0
+UNSTATED = "*"
 
 Random = random.Random
 
@@ -235,7 +236,7 @@ def hold_promises(trial: Trial, rng: Random, number: int, n: int) -> None:
             made = trial.compare(case)
             if isinstance(made, str):
                 continue
-            unkept = promises.unkept(sheet, case, paired(made.space[: 2 * made.numbers[2]]))
+            unkept = promises.unkept(sheet, case, made.numbers, paired(made.space[: 2 * made.numbers[2]]))
             trial.count(not unkept, case, lambda: "; ".join(unkept))
 
 
@@ -325,7 +326,10 @@ def stated_check(case: Case, stated: Answer) -> Answer | None:
 
 
 def given(trial: Trial, lines: Iterable[str]) -> None:
-    """Runs lines; where one states an answer after `=>`, holds the outcome to it, and `check` to what follows."""
+    """Runs lines; where one states an answer after `=>`, holds the outcome to it, and `check` to what follows.
+
+    The lines of document 01 do not state the last number of a plan that is made: document 02, Job 2, has another one.
+    """
     for text in filter(str.strip, lines):
         wanted, _, after = text.partition("=>")
         case = case_of(wanted)
@@ -334,7 +338,7 @@ def given(trial: Trial, lines: Iterable[str]) -> None:
             print(got if isinstance(got, str) else told(got))
             continue
         front, _, pairs = after.partition("|")
-        numbers = tuple(numbers_of(front.strip()))
+        numbers = tuple(numbers_of(front.strip().replace(UNSTATED, listed(read(case).numbers[-1:]))))
         if case.operation == "replay":
             numbers = (numbers[0], NO_VERDICT, numbers[1]) if len(numbers) == 2 else (0, *numbers[2:])
         stated = Answer(numbers, paired(numbers_of((pairs.split() or ["-"])[0])))

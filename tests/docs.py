@@ -2,10 +2,11 @@
 
 crates/: each statement of specs/ has a proof in proofs/ of its crate. docs/WHY.md: each theorem or law stands in the
 lines that the page names, each sheet has the lists and counts that the page states, the table of the five piles has its
-lifts and reasons (all by reading.py), each picture is what tools/draw makes of its sheet. docs/CLASSROOM.md: what is to
-be changed stands there once, its sheet has the numbers that the page states, and the sheets for a course are those of
-their seed. docs/DEMANDS.md: each file, definition, function and must-fail edit that it names exists. The tests of the
-tools are those of commands.py, pictures.py and page_data.py.
+lifts and reasons (all by reading.py), each picture is what tools/draw makes of its sheet; where another page says what
+a sheet reads and takes, it says the same. docs/CLASSROOM.md: what is to be changed stands there once, its sheet has the
+numbers that the page states, and the sheets for a course are those of their seed. docs/DEMANDS.md: each file,
+definition, function and must-fail edit that it names exists. The tests of the tools are those of commands.py,
+pictures.py and page_data.py.
 With --write it corrects the line numbers of docs/WHY.md and draws the pictures again.
 """
 
@@ -28,6 +29,8 @@ from tested import ROOT, Test, counted, list_line, sheet_line, sheet_of, unlike
 WHY = ROOT / "docs" / "WHY.md"
 DEMANDS = ROOT / "docs" / "DEMANDS.md"
 CLASSROOM = ROOT / "docs" / "CLASSROOM.md"
+DECISIONS = ROOT / "docs" / "DECISIONS.md"
+SPECIFICATION = ROOT / "docs" / "SPECIFICATION.md"
 PICTURES = ROOT / "docs" / "pictures"
 THEOREMS = "crates/blocks/specs/Demands.antt"
 SEARCHED = 7
@@ -36,6 +39,7 @@ REFERENCE = re.compile(r"`([^`\s]+)`, `(crates/[^`:]+):(\d+)(?:-(\d+))?`")
 NAMES = r"[^\s(){}]+(?: [^\s(){}]+)*"
 DECLARED = re.compile(rf"( *)((?:(?:unfoldable|abbrev|pub) )*)(?:(record|data) (\S+) .*|({NAMES}) : .*)")
 TICKED = re.compile(r"`([^`]+)`")
+READS = re.compile(r"(S\d) reads (\d+) and takes (\d+)")
 LIFT = re.compile(r"(\d+)→(\d+)")
 STATED = re.compile(r"^(?:abbrev pub (\S+)|pub record (\S+)) : Type 0(?: where)?\n((?:.+\n)+)", re.MULTILINE)
 
@@ -230,6 +234,17 @@ def page_sheets() -> Iterator[Test]:
             arrives = reading.replay(*known[name].sheet(), flat(pairs)) == (0, 0, 0)
             longer = len(pairs) > int(known[name].fewest)
             yield f"WHY.md, list {listed}", "" if arrives and longer else "does not arrive, or costs no lift"
+
+
+def head_counts() -> Iterator[Test]:
+    """How many misplaced slabs a sheet reads and how many lifts it takes, where a page says it, against the table."""
+    known = rows()
+    for page in (WHY, DECISIONS, SPECIFICATION):
+        told = READS.findall(text_of(page))
+        yield f"{page.name}, a sheet and its head count", "" if told else "nothing is said"
+        for name, *numbers in told:
+            right = [known[name].misplaced, known[name].fewest] if name in known else []
+            yield f"{page.name}, head count of {name}", unlike(numbers, right)
 
 
 # How a picture is drawn, by what its name ends with.
@@ -445,7 +460,7 @@ def main() -> int:
             if made:
                 (PICTURES / f"{name}.svg").write_text(made, encoding="utf-8")
     of_tools = [commands.tests({name: row.typed() for name, row in rows().items()}), of_draw.tests(), page_data.tests()]
-    of_why = [references(), page_sheets(), waiting(), five_piles(), pictures()]
+    of_why = [references(), page_sheets(), head_counts(), waiting(), five_piles(), pictures()]
     return counted(itertools.chain(proved(), *of_why, classroom(), course(), demands(), *of_tools))
 
 

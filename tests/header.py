@@ -33,6 +33,7 @@ HEADER = INCLUDE / "topjeska.h"
 EXPORTS = ROOT / "crates" / "topjeska" / "src" / "lib.rt"
 GENERATOR = ROOT / "crates" / "generator" / "src" / "lib.rt"
 WRAPPER = ROOT / "rust" / "src" / "ffi.rs"
+SAFE = ROOT / "rust" / "src" / "lib.rs"
 MANIFEST = ROOT / "rust" / "Cargo.toml"
 
 # A field or a parameter: its name and its type, as Rust writes the type.
@@ -296,6 +297,11 @@ TOLD = {
     ],
     "constant plan_space": ["the numbers of lent space"],
     "constant deadlock_space": ["the numbers of lent space"],
+    "struct plan": [
+        "the count of slabs that are misplaced at the start",
+        "no list that arrives has fewer lifts than that",
+        "the fewest lifts that could do exactly when nothing is deadlocked at the start",
+    ],
     "function plan": ["as pairs: slab, destination", "what lies behind the pairs keeps what it held"],
     "function deadlock": ["as pairs: the slab, and the slab through which the next one is in its way"],
     "struct generator": ["the same sheets on every machine", "one that is not 0 never becomes 0"],
@@ -331,9 +337,17 @@ def untold(header: str) -> list[str]:
     return [f"{of}: {part}" for of, parts in TOLD.items() for part in parts if part not in words.get(of, "")]
 
 
+def unpromised() -> list[str]:
+    """What the safe wrapper should say of its count of misplaced slabs and does not."""
+    found = re.search(r"((?: *///.*\n)+) *pub misplaced: u64,", SAFE.read_text())
+    words = one_line(found[1]).lower() if found else ""
+    return [part for part in TOLD["struct plan"] if part not in words]
+
+
 def comments_wrong() -> Iterator[tuple[str, list[str]]]:
     """What is wrong with the comments."""
     header, wrapper = HEADER.read_text(), WRAPPER.read_text()
+    yield "what the safe wrapper's comment on the misplaced must say", unpromised()
     yield "the comments of the header and the Rust wrapper", misworded(header, wrapper)
     yield "what the header's comments must say", untold(header)
 

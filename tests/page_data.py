@@ -164,8 +164,9 @@ def mislisted(told: Data, method: int, now: Yard, goal: Yard) -> str:
     pairs, right = listed(method, now, goal), shots(method, now, goal)
     counts = {str(m): len(listed(m, now, goal)) for m in METHODS}
     ring = [list(pair) for pair in reading.deadlock(now, goal, reading.deadlock_space(len(now)))[3]]
-    numbers = [len(pairs), reading.changed(now, goal), right[0].misplaced, reading.floor(now, goal), counts, ring]
-    found = [told.get(key) for key in ("count", "changed", "misplaced", "floor", "counts", "deadlock")]
+    astray = right[0].misplaced
+    numbers = [len(pairs), len(astray), astray, reading.floor(now, goal), counts, ring]
+    found = [told.get(key) for key in ("count", "head", "misplaced", "floor", "counts", "deadlock")]
     if wrong := unlike(found, numbers):
         return wrong
     for lift, pair, before, after in zip(told["lifts"], pairs, right, right[1:]):

@@ -51,15 +51,19 @@ def answer(data: bytes) -> bytes:
     if len(marks) > len(wished) or rest:
         return refused(12, len(wished))
     entries = [record.fields[0] for record in found[1:]]
-    (number, place, _, changed), pairs = read(planning(method, entries[:n], entries[n:]))
-    return refused(number, place) if number else planned(changed, pairs)
+    (number, place, _, misplaced), pairs = read(planning(method, entries[:n], entries[n:]))
+    return refused(number, place) if number else planned(misplaced, pairs)
 
 
 def vectors() -> Iterator[tuple[bytes, bytes]]:
-    """Inputs with their outputs by another reading of document 01, a line each in hexadecimal; - is the empty input."""
+    """Inputs with their outputs by another reading, a line each in hexadecimal; - is the empty input.
+
+    It read document 01 alone, and document 02, Job 2, has another number in PL's second field: dots stand for it.
+    """
     for line in VECTORS.read_text().splitlines():
-        data, told = line.split()
-        yield bytes.fromhex(data.replace("-", "")), bytes.fromhex(told)
+        words, told = line.split()
+        data = bytes.fromhex(words.replace("-", ""))
+        yield data, bytes.fromhex(told.replace("....", answer(data)[4:HEAD].hex()))
 
 
 def documents() -> Iterator[bytes]:
@@ -129,14 +133,13 @@ def plans() -> Iterator[tuple[bytes, bytes]]:
     """Full yards with their plans in closed form: the longest input, and the plans of 3,000 and more lifts."""
     for known in sheets.full_yards():
         for method in METHODS:
-            changed = reading.changed(known.now, known.goal)
-            yield asked(method, known.now, known.goal), planned(changed, known.pairs(method))
+            yield asked(method, known.now, known.goal), planned(known.misplaced(), known.pairs(method))
 
 
 def sizes() -> Iterator[tuple[bool, str]]:
     """The lengths of records, of the longest input, and of the longest plan, in which all but one are lifted twice."""
     known = sheets.turned(MOST)
-    longest = planned(reading.changed(known.now, known.goal), known.pairs(1))
+    longest = planned(known.misplaced(), known.pairs(1))
     for words, size in (("HD 0 0", HEAD), ("NW 0", ENTRY), ("GL 0", ENTRY), ("PL 0 0", HEAD), ("LF 0 0", LIFT)):
         yield len(packed(words)) == size, f"the length of {words}"
     yield len(asked(1, known.now, known.goal)) == LONGEST_INPUT, "the length of the longest input"

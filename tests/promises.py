@@ -1,4 +1,4 @@
-"""Demands 2 and 3 on a small accepted sheet: what a list and a deadlock answer must keep, by search and definition."""
+"""Demands 2 and 3 on a small accepted sheet: what a list, a count and a deadlock answer keep, by search."""
 
 from collections.abc import Sequence
 from typing import NamedTuple
@@ -45,8 +45,17 @@ def unkept_by_test(sheet: Searched, pairs: Sequence[Pair]) -> list[str]:
     return wrong
 
 
-def unkept(sheet: Searched, case: Case, pairs: Sequence[Pair]) -> list[str]:
-    """What the pairs written for a case of planning or of the deadlock test break."""
+def unkept_by_count(sheet: Searched, misplaced: int) -> list[str]:
+    """What the count of misplaced slabs breaks: no list is shorter; it is the fewest just without a deadlock."""
+    if misplaced > sheet.fewest:
+        return [f"{misplaced} are misplaced where {sheet.fewest} lifts are enough"]
+    if (misplaced == sheet.fewest) == sheet.deadlocked:
+        return [f"{misplaced} are misplaced, {sheet.fewest} lifts are the fewest, deadlocked: {sheet.deadlocked}"]
+    return []
+
+
+def unkept(sheet: Searched, case: Case, numbers: Sequence[int], pairs: Sequence[Pair]) -> list[str]:
+    """What the numbers and pairs of a case of planning or of the deadlock test break."""
     if case.operation == "plan":
-        return unkept_by_list(sheet, case.method, pairs)
+        return unkept_by_list(sheet, case.method, pairs) + unkept_by_count(sheet, numbers[3])
     return unkept_by_test(sheet, pairs)

@@ -203,15 +203,10 @@ def deadlock_space(n: int) -> int:
     return 2 * n
 
 
-def changed(now: Yard, goal: Yard) -> int:
-    """The count of slabs whose now and goal entries differ."""
-    return sum(now[s - 1] != goal[s - 1] for s in slabs(now))
-
-
 def plan(
     method: int, now: Yard, goal: Yard, space_len: int
 ) -> tuple[int, int, int, int, list[Pair]]:
-    """Planning: number, place, lift count, changed and the pairs written."""
+    """Planning: number, place, lift count, misplaced slabs at the start and the pairs written."""
     if method not in METHODS:
         return 1, 0, 0, 0, []
     number, place = check(now, goal)
@@ -222,7 +217,7 @@ def plan(
     pairs = method_us(now, goal) if method == 1 else method_gn(method, now, goal)
     if pairs is None:
         return 13, 0, 0, 0, []
-    return 0, 0, len(pairs), changed(now, goal), pairs
+    return 0, 0, len(pairs), len(misplaced(now, goal)), pairs
 
 
 def deadlock(now: Yard, goal: Yard, space_len: int) -> tuple[int, int, int, list[Pair]]:

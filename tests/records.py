@@ -78,9 +78,9 @@ def asked(method: int, now: Yard, goal: Yard) -> bytes:
     return packed(", ".join([f"HD {len(now)} {method}", *entries]))
 
 
-def planned(changed: int, pairs: Sequence[Pair]) -> bytes:
+def planned(misplaced: int, pairs: Sequence[Pair]) -> bytes:
     """The answer of a plan: PL and the LF records."""
-    return packed(", ".join([f"PL {len(pairs)} {changed}", *(f"LF {slab} {place}" for slab, place in pairs)]))
+    return packed(", ".join([f"PL {len(pairs)} {misplaced}", *(f"LF {slab} {place}" for slab, place in pairs)]))
 
 
 def refused(number: int, place: int) -> bytes:

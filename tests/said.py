@@ -146,16 +146,23 @@ def untrue(now: Yard, goal: Yard, count: int, sentence: str) -> str:
     return f"{sheet_line(now, goal)}: {wrong}, and the shortest has {fewest}" if wrong else ""
 
 
+def right_head(now: Yard, goal: Yard) -> str:
+    """The row on the number of misplaced slabs, and what it means for every list."""
+    (_, _, _, head), _ = read(planning(2, now, goal))
+    means = "every list has more lifts" if reading.deadlocked(now, goal) else "the fewest lifts that could do"
+    return f"{head} at the start, {means}"
+
+
 def right_plan(method: int, now: Yard, goal: Yard) -> str:
     """All that the tool should print of a plan, its lines unwrapped."""
-    (_, _, count, changed), pairs = read(planning(method, now, goal))
+    (_, _, count, _), pairs = read(planning(method, now, goal))
     counts = ", ".join(f"{len(read(planning(m, now, goal)).pairs)} by method {m}" for m in METHODS)
     rows = [
         f"list: {list_line(pairs) or 'no lifts'}",
         f"sheet: {sheet_line(now, goal)}",
         f"method: {method} ({('US', 'GN1', 'GN2')[method - 1]})",
         f"lifts: {counts}",
-        f"changed: {changed} (slabs whose now and goal entries differ)",
+        f"misplaced: {right_head(now, goal)}",
     ]
     return "\n".join([right_length(now, goal, count), *reasons(method, now, goal, pairs), *rows])
 
@@ -257,9 +264,9 @@ def ringed(now: Yard, goal: Yard) -> Object:
 
 def plan_object(method: int, now: Yard, goal: Yard) -> Object:
     """The object of a plan."""
-    (_, _, count, changed), pairs = read(planning(method, now, goal))
+    (_, _, count, head), pairs = read(planning(method, now, goal))
     counts = {str(m): len(read(planning(m, now, goal)).pairs) for m in METHODS}
-    numbers = {"method": method, "place": 0, "count": count, "changed": changed, "counts": counts}
+    numbers = {"method": method, "place": 0, "count": count, "head": head, "counts": counts}
     words = {"words": right_length(now, goal, count), "lifts": right_lifts(method, now, goal, pairs)}
     return {**begun("plan", now, goal), **ringed(now, goal), **numbers, **words}
 

@@ -43,11 +43,11 @@ ENDS = [
 # S1 to S6.
 STATED: list[Sheet] = list(dict.fromkeys((tuple(end.now), tuple(end.goal)) for end in ENDS))
 
-# Lift counts of method 1, and "changed", that it states without a list: now, goal, lifts, changed.
+# Lift counts of method 1, and misplaced slabs, that it states without a list: now, goal, lifts, misplaced.
 COUNTS: list[tuple[list[int], list[int], int | None, int | None]] = [
     ([2, 0, 4, 0], [4, 0, 2, 0], 4, None),
     ([2, 3, 0, 5, 0], [5, 0, 0, 3, 2], 6, None),
-    ([2, 3, 0], [2, 0, 0], None, 1),
+    ([2, 3, 0], [2, 0, 0], None, 2),
 ]
 
 # The sheets that it refuses: now, goal, number, place.
@@ -80,6 +80,10 @@ class Known(NamedTuple):
     def pairs(self, method: int) -> list[Pair]:
         """The list of a method."""
         return self.first if method == 1 else self.others
+
+    def misplaced(self) -> int:
+        """How many slabs are misplaced: a list lifts each of them and no other."""
+        return len({slab for slab, _ in self.others})
 
 
 def tower(n: int) -> list[int]:

@@ -48,7 +48,7 @@ def plan(library: Library, method: int, sheet: Sheet) -> Answer:
         "refusal": 0,
         "place": 0,
         "count": len(lifts),
-        "changed": made.changed,
+        "head": about.head,
         "misplaced": about.misplaced,
         "deadlock": about.ring,
         "floor": about.floor(),
@@ -69,7 +69,7 @@ def deadlock(library: Library, sheet: Sheet) -> Answer:
         words = f"deadlock: {deadlocked(found.pairs)}"
     else:
         words = "no deadlock" if about.misplaced else "no deadlock: nothing is misplaced"
-    cost = cost_in_words(len(about.misplaced), found.pairs)
+    cost = cost_in_words(about.head, found.pairs)
     return {**begun, **ends, "floor": about.floor(), "words": words, "cost": cost}
 
 
@@ -198,6 +198,11 @@ def cost_in_words(misplaced: int, ring: list[Pair]) -> str:
     return f"{astray} misplaced, and methods 2 and 3 lift each once: none is shorter"
 
 
+def head_in_words(head: int, ring: list[Pair]) -> str:
+    """What the number of misplaced slabs means for every list (theorem `HeadCount.fewest`)."""
+    return f"{head} at the start, {'every list has more lifts' if ring else 'the fewest lifts that could do'}"
+
+
 def rows(named: list[tuple[str, str]]) -> list[str]:
     """Rows of a name and its words, wrapped; tools read `sheet`, `method` and `list` back."""
     indent = " " * 11
@@ -230,7 +235,7 @@ def plan_in_words(answer: Answer) -> list[str]:
         sheet_row(answer),
         ("method", f"{method} ({METHODS[method]})"),
         ("lifts", counts),
-        ("changed", f"{answer['changed']} (slabs whose now and goal entries differ)"),
+        ("misplaced", head_in_words(answer["head"], answer["deadlock"])),
     ]
     return [sentence(answer["words"]), *map(sentence, each), *rows(named)]
 

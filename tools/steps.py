@@ -54,17 +54,17 @@ class Step(NamedTuple):
 
 
 class Told(NamedTuple):
-    """An accepted sheet: its misplaced slabs, the deadlock at the start or none, and each method's number of lifts."""
+    """An accepted sheet: how many slabs are misplaced, and which; a deadlock at the start or none; lifts by method."""
 
     sheet: Sheet
-    changed: int
+    head: int
     misplaced: list[int]
     ring: list[Pair]
     counts: dict[int, int]
 
     def floor(self) -> int:
         """No list that arrives is shorter: theorems `HeadCount.floor` and `Promise.costs`."""
-        return len(self.misplaced) + bool(self.ring)
+        return self.head + bool(self.ring)
 
 
 # ---- the library's answers
@@ -75,7 +75,7 @@ def told(library: Library, sheet: Sheet) -> Told:
     plans = {method: library.plan(method, sheet) for method in METHODS}
     misplaced = sorted(set(plans[2].slabs()))
     counts = {method: len(plan.slabs()) for method, plan in plans.items()}
-    return Told(sheet, plans[2].changed, misplaced, library.deadlock(sheet).pairs, counts)
+    return Told(sheet, plans[2].misplaced, misplaced, library.deadlock(sheet).pairs, counts)
 
 
 def frame(library: Library, yard: array, goal: array) -> Frame:
@@ -198,7 +198,7 @@ def lifts_in_words(number: int) -> str:
 
 def floor_in_words(about: Told) -> str:
     """How many lifts every list that arrives has at least, and why."""
-    astray = counted(len(about.misplaced), "slab is", "slabs are")
+    astray = counted(about.head, "slab is", "slabs are")
     cost = f", and {deadlocked(about.ring)}" if about.ring else ""
     return f"at least {lifts_in_words(about.floor())}: {astray} misplaced{cost}"
 

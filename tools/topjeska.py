@@ -25,7 +25,7 @@ MADE = ROOT / "target" / "tools"
 # The fields of each answer, in the header's order.
 FIELDS = {
     "check": ("refusal", "place"),
-    "plan": ("refusal", "place", "count", "changed"),
+    "plan": ("refusal", "place", "count", "misplaced"),
     "deadlock": ("refusal", "place", "count"),
     "replay": ("refusal", "verdict", "place"),
     "training": ("refusal", "place"),
@@ -55,11 +55,11 @@ class Check(NamedTuple):
 
 
 class Plan(NamedTuple):
-    """A list of lifts, as the numbers that the library wrote, and the count of entries that differ."""
+    """A list of lifts, as the numbers that the library wrote, and the count of misplaced slabs at the start."""
 
     refusal: int
     place: int
-    changed: int
+    misplaced: int
     numbers: array
 
     def lifts(self) -> list[Lift]:
@@ -200,7 +200,7 @@ class Library:
         """The list of a method for lists that are lent as they are."""
         space = array("H", bytes(8 * len(now)))
         answer = self.called["plan"](method, *lent(now), *lent(goal), *lent(space))
-        return Plan(answer.refusal, answer.place, answer.changed, space[: 2 * answer.count])
+        return Plan(answer.refusal, answer.place, answer.misplaced, space[: 2 * answer.count])
 
     def deadlock(self, sheet: Sheet) -> Deadlock:
         """The deadlock test."""

@@ -47,7 +47,7 @@ static void show(const sheet *s) {
     accepted(plan.refusal, plan.place);
     printf("%s lifts", s->name);
     print_pairs(lifts, plan.count, "->");
-    printf("%s changed %" PRIu64 "\n", s->name, plan.changed);
+    printf("%s misplaced %" PRIu64 "\n", s->name, plan.misplaced);
     topjeska_deadlock_answer deadlock =
         topjeska_deadlock(s->now, s->n, s->goal, s->n, locked, TOPJESKA_DEADLOCK_SPACE(s->n));
     accepted(deadlock.refusal, deadlock.place);

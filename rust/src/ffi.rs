@@ -120,14 +120,17 @@ pub struct CheckAnswer {
     pub place: u64,
 }
 
-/// The count of lifts written, and `changed`, the count of slabs whose now and goal entries differ.
+/// The count of lifts written, and `misplaced`, the count of slabs that are misplaced at the start.
+/// No list that arrives has fewer lifts than that. It is the fewest lifts that could do exactly when
+/// nothing is deadlocked at the start: with a deadlock every list that arrives has more (theorem
+/// `head-count`).
 #[repr(C)]
 #[derive(Clone, Copy, Debug, PartialEq, Eq)]
 pub struct PlanAnswer {
     pub refusal: u64,
     pub place: u64,
     pub count: u64,
-    pub changed: u64,
+    pub misplaced: u64,
 }
 
 /// The count of deadlocked slabs written; 0 where there is no deadlock.

@@ -36,11 +36,13 @@ pub enum Method {
 /// A slab and its destination.
 pub type Lift = [u16; 2];
 
-/// The lifts from now to the goal, and the count of slabs whose now and goal entries differ.
+/// The lifts from now to the goal, and how many slabs are misplaced at the start.
 #[derive(Clone, Debug, PartialEq, Eq)]
 pub struct Plan {
     pub lifts: Vec<Lift>,
-    pub changed: u64,
+    /// The count of slabs that are misplaced at the start. No list that arrives has fewer lifts than that. It is
+    /// the fewest lifts that could do exactly when nothing is deadlocked at the start.
+    pub misplaced: u64,
 }
 
 /// What a replay says; the bad lift is counted from 1.
@@ -146,7 +148,7 @@ pub fn plan(method: Method, now: &[u16], goal: &[u16]) -> Result<Plan, Refusal> 
     lifts.truncate(answer.count as usize);
     Ok(Plan {
         lifts,
-        changed: answer.changed,
+        misplaced: answer.misplaced,
     })
 }
 
@@ -355,7 +357,13 @@ mod tests {
             assert_eq!(replay(goal, now, &lifts), Ok(Verdict::Idle { lift: 2 }));
             let elsewhere = Verdict::Elsewhere { slab: 1 };
             assert_eq!(replay(now, goal, &lifts[..1]), Ok(elsewhere));
-            assert_eq!(plan(Method::Gn1, now, goal), Ok(Plan { lifts, changed: 1 }));
+            assert_eq!(
+                plan(Method::Gn1, now, goal),
+                Ok(Plan {
+                    lifts,
+                    misplaced: 2
+                })
+            );
         }
         let (now, goal) = (&[2, 0, 4, 0], &[4, 0, 2, 0]);
         assert_eq!(deadlock(now, goal), Ok(vec![[1, 4], [3, 2]]));

@@ -28,10 +28,10 @@ static void check_is(const char *what, topjeska_check_answer got, uint64_t refus
 }
 
 static void plan_is(const char *what, topjeska_plan_answer got, uint64_t refusal, uint64_t place,
-                    uint64_t lifts, uint64_t changed) {
+                    uint64_t lifts, uint64_t misplaced) {
     count(got.refusal == refusal && got.place == place && got.count == lifts &&
-              got.changed == changed,
-          what, got.refusal, got.place, got.count, got.changed);
+              got.misplaced == misplaced,
+          what, got.refusal, got.place, got.count, got.misplaced);
 }
 
 static void deadlock_is(const char *what, topjeska_deadlock_answer got, uint64_t refusal,

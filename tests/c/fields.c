@@ -7,7 +7,7 @@
 static const uint16_t bad[] = {2, 1, 5}, ground[] = {0, 0, 0};
 /* "Now 0 1 1: number 5, place 3", and "Now 1: number 6, place 1"; as goals 8 and 9. */
 static const uint16_t shared[] = {0, 1, 1}, floating[] = {1};
-/* S6, "changed 1", three lifts by method 2; slab 1 goes to the ground and back. */
+/* S6 "reads 2", three lifts by method 2; slab 1 goes to the ground and back. */
 static const uint16_t s6_now[] = {2, 3, 0}, s6_goal[] = {2, 0, 0}, s6_lifts[] = {1, 0, 2, 0, 1, 2};
 /* S4, "deadlock pairs 1 4, 3 2". */
 static const uint16_t s4_now[] = {2, 0, 4, 0}, s4_goal[] = {4, 0, 2, 0};
@@ -53,7 +53,7 @@ static void plans(void) {
             TOPJESKA_REFUSAL_SPACE, 0, 0, 0);
     space_is("space of refused plans", space, untouched, 24);
     plan_is("plan of S6",
-            topjeska_plan(gn1, s6_now, 3, s6_goal, 3, space, TOPJESKA_PLAN_SPACE(3)), 0, 0, 3, 1);
+            topjeska_plan(gn1, s6_now, 3, s6_goal, 3, space, TOPJESKA_PLAN_SPACE(3)), 0, 0, 3, 2);
     space_is("lifts of S6", space, s6_lifts, 6);
     space_is("space behind them", space + 6, untouched, 18);
     /* "method 1 takes four lifts", method 2 three. */

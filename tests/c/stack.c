@@ -76,14 +76,15 @@ static void measure(int operation) {
 }
 
 /* Every operation on the sheet that is there: the count of lifts by method 1 and by 2 and 3, all of
- * which arrive, the entries that differ, the deadlocked slabs, and how the space then begins. */
-static void answered(const char *name, uint64_t put_down, uint64_t built, uint64_t changed,
+ * which arrive, the misplaced slabs, the deadlocked slabs, and how the space then begins. */
+static void answered(const char *name, uint64_t put_down, uint64_t built, uint64_t misplaced,
                      uint64_t deadlocked, const uint16_t *front) {
     measure(CHECK);
     check_is(name, check_answer, 0, 0);
     for (method = TOPJESKA_METHOD_US; method <= TOPJESKA_METHOD_GN2; method++) {
         measure(PLAN);
-        plan_is(name, plan_answer, 0, 0, method == TOPJESKA_METHOD_US ? put_down : built, changed);
+        plan_is(name, plan_answer, 0, 0, method == TOPJESKA_METHOD_US ? put_down : built,
+                misplaced);
         lifts_len = 2 * plan_answer.count;
         measure(REPLAY);
         replay_is(name, replay_answer, 0, TOPJESKA_VERDICT_ARRIVES, 0);
@@ -126,8 +127,8 @@ static void ring(void) {
     answered("a ring", 2 * HALF, HALF + 1, HALF, HALF, front);
 }
 
-/* S5 of document 01 over and over: by method 1 six lifts each, by 2 and 3 five, four entries
- * differ. The deadlock test shows the first deadlock, the pair 1 2; behind it stands the list of
+/* S5 of document 01 over and over: by method 1 six lifts each, by 2 and 3 five, four slabs
+ * misplaced. The deadlock test shows the first deadlock, the pair 1 2; behind it stands the list of
  * method 3. */
 static void many_deadlocks(void) {
     enum { SMALL = 5, COPIES = SLABS / SMALL };

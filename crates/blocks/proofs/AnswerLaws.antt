@@ -22,7 +22,7 @@ module _ (m : ℕ) (s g : State) (space : List ℕ) where
   plan-refuses k p = first-no (planQuestions m s g space) plan-decides (no′ k p)
 
   pub plan-refusal : (k p : ℕ) → PlanRefused m s g space k p
-      → (planAnswer m s g space ≡ record { number = k; place = p; count = 0; changed = 0 }) × (planSpace m s g space ≡ space)
+      → (planAnswer m s g space ≡ record { number = k; place = p; count = 0; misplaced = 0 }) × (planSpace m s g space ≡ space)
   unfolding planAnswer planSpace
   plan-refusal k p r = let e : firstNo (planQuestions m s g space) ≡ no′ k p = plan-refuses k p .1 r in (rw e, rw e)
 

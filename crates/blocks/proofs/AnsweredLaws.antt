@@ -10,7 +10,7 @@ use lib.Seq.{take-append-seam, take-at}
 use Rattle.blocks.specs.State.{State}
 use Rattle.blocks.specs.Position.{Problem, Accepted}
 use Rattle.blocks.specs.Move.{Plan, Solves}
-use Rattle.blocks.specs.Tests.{changed}
+use Rattle.blocks.specs.Tests.{misplacedCount}
 use Rattle.blocks.specs.Loop.{memberᵇ}
 use Rattle.blocks.specs.Method.{Method, Us, Gn1, Gn2, plan, outcome, built, deadlockLoop, deadlockPairs, methodOf, numberOf, outcomeBy, planOf, planOutcome}
 use Rattle.blocks.specs.Question.{Question, Asked, allYes, no′, firstNo, AllYes, FirstNo, IsMethod, asksMethod, asksSize, asksRoom, asksEven, asksPlan}
@@ -97,7 +97,7 @@ is-method Gn1 = record { low = omega arith; high = omega arith }
 is-method Gn2 = record { low = omega arith; high = omega arith }
 
 pub plan-answers : (m : Method) (s g : State) (space : List ℕ) → Accepted s g → 4 * length s ≤ length space → (p : Plan) → outcome m s g ≡ plan p
-    → (planAnswer (numberOf m) s g space ≡ record { number = 0; place = 0; count = length p; changed = changed s g })
+    → (planAnswer (numberOf m) s g space ≡ record { number = 0; place = 0; count = length p; misplaced = misplacedCount s g })
     × (planSpace (numberOf m) s g space ≡ flat p ++ drop (2 * length p) space)
 unfolding planAnswer planSpace planOutcome
 plan-answers m s g space a h p e = (

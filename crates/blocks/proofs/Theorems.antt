@@ -1,19 +1,18 @@
 -- The theorems of specs/Demands, proved: each is a law of one of the files beside this one. Assumes nothing.
 use mathlib.Core.Path.{_≡_, sym, ap, subst}
 use mathlib.Core.Logic.{_↔_, _≢_}
-use mathlib.Core.Bool.{Bool, true, not}
+use mathlib.Core.Bool.{Bool, true}
 use Prim.Native.Nat.{ℕ, _*_, _≤_}
 use native.Mathlib.Omega.{arith}
-use lib.Dec.{eqb}
 use lib.ListN.{length}
 use Rattle.lists.specs.Search.{Counts}
 use Rattle.blocks.specs.State.{State, support, down}
 use Rattle.blocks.specs.Position.{Proper, Problem, InPosition, Misplaced}
 use Rattle.blocks.specs.Move.{Plan, Solves}
-use Rattle.blocks.specs.Tests.{misplacedᵇ, changed, misplacedCount}
+use Rattle.blocks.specs.Tests.{misplacedᵇ, misplacedCount}
 use Rattle.blocks.specs.Method.{Method, Us, Gn1, plan, outcome}
 use Rattle.blocks.specs.Demands.{NoDeadlock, Fewest, HeadCount, Promise, Economy, Theorems}
-use Rattle.lists.proofs.ReflectLaws.{Reflects, from-true, to-true, reflects-not, eqb-reflects}
+use Rattle.lists.proofs.ReflectLaws.{Reflects, from-true, to-true}
 use Rattle.lists.proofs.SearchLaws.{count-counts}
 use Rattle.blocks.proofs.GroundLaws as ground
 use Rattle.blocks.proofs.ClearLaws as clear
@@ -68,11 +67,7 @@ plan-fits m s g q p e =
     let short : length (w .0) ≡ length p = ap length same in
     omega (arith, short, w .2 .bound, measure-le s g (q .initial), misplaced-le s g)
 
--- the counts
-changed-counts : (s g : State) → Counts (λ b. support s b ≢ support g b) (length s) (changed s g)
-unfolding changed
-changed-counts s g =
-    count-counts (λ b. support s b ≢ support g b) (λ b. not (eqb (support s b) (support g b))) (λ b. reflects-not (eqb-reflects (support s b) (support g b))) (length s)
+-- ---- the misplaced blocks
 
 misplaced-counts : (s g : State) → Proper s → Counts (Misplaced s g) (length s) (misplacedCount s g)
 unfolding misplacedCount
@@ -130,7 +125,6 @@ theorems =
       deadlock-answers = answers.deadlock-answers;
       replay-answers = answers.replay-answers;
       never-13 = answers.never-13;
-      changed-counts = changed-counts;
       pairs-back = flats.pairs-back;
       pairs-forth = flats.pairs-forth;
       methods = method-told;

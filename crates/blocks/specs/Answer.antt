@@ -8,7 +8,7 @@ use Rattle.lists.specs.Lists.{overwrite}
 use Rattle.lists.specs.Search.{lowest}
 use Rattle.blocks.specs.State.{State, support, put}
 use Rattle.blocks.specs.Move.{_⟶_, Plan}
-use Rattle.blocks.specs.Tests.{changed}
+use Rattle.blocks.specs.Tests.{misplacedCount}
 use Rattle.blocks.specs.Method.{planOf, planOutcome, deadlockPairs, deadlockLoop}
 use Rattle.blocks.specs.Question.{Asked, allYes, no′, firstNo, problemQuestions, planQuestions, deadlockQuestions, replayQuestions}
 use Rattle.blocks.specs.Replay.{moveQuestions}
@@ -41,16 +41,16 @@ checkAnswer s g = checked (firstNo (problemQuestions s g))
 
 -- ---- planning: questions 1 to 10 and 13
 
--- "Planning also answers the lift count and "changed"".
+-- "Planning also answers the lift count"; document 02, Job 2: "the planner's answer" carries "the number of misplaced slabs", at the start.
 pub record PlanAnswer : Type 0 where
   pub number : ℕ
   pub place : ℕ
   pub count : ℕ
-  pub changed : ℕ
+  pub misplaced : ℕ
 
 abbrev pub planned : Asked → State → State → Plan → PlanAnswer
-planned allYes s g p = record { number = 0; place = 0; count = length p; changed = changed s g }
-planned (no′ k q) s g p = record { number = k; place = q; count = 0; changed = 0 }
+planned allYes s g p = record { number = 0; place = 0; count = length p; misplaced = misplacedCount s g }
+planned (no′ k q) s g p = record { number = k; place = q; count = 0; misplaced = 0 }
 
 unfoldable pub planAnswer : ℕ → State → State → List ℕ → PlanAnswer
 planAnswer m s g space = planned (firstNo (planQuestions m s g space)) s g (planOf (planOutcome m s g))

@@ -11,7 +11,7 @@ use Rattle.blocks.specs.State.{State, support, down, Above, Clear, Groun
 use Rattle.lists.specs.Search.{Counts}
 use Rattle.blocks.specs.Position.{Proper, Problem, Accepted, InPosition, Misplaced}
 use Rattle.blocks.specs.Move.{Plan, CarefulPlan, Moved, Solves}
-use Rattle.blocks.specs.Tests.{clearᵇ, groundedᵇ, inPositionᵇ, waitingᵇ, readyᵇ, perchedᵇ, misplacedCount, changed, measure}
+use Rattle.blocks.specs.Tests.{clearᵇ, groundedᵇ, inPositionᵇ, waitingᵇ, readyᵇ, perchedᵇ, misplacedCount, measure}
 use Rattle.blocks.specs.Deadlock.{next, Deadlock, Deadlocked}
 use Rattle.blocks.specs.Loop.{lastMisplaced, blocker, successor, loop}
 use Rattle.blocks.specs.Stall.{Waiting, Perched, Ready, NoneReady, IsLoop}
@@ -103,14 +103,14 @@ pub record Theorems : Type 0 where
   pub replay-refuses : (s g : State) (lifts : List ℕ) (k p : ℕ) → (firstNo (replayQuestions s g lifts) ≡ no′ k p) ↔ ReplayRefused s g lifts k p
   -- a refusal answers its number and place, counts 0, and leaves the lent space as it was
   pub plan-refusal : (m : ℕ) (s g : State) (space : List ℕ) (k p : ℕ) → PlanRefused m s g space k p
-      → (planAnswer m s g space ≡ record { number = k; place = p; count = 0; changed = 0 }) × (planSpace m s g space ≡ space)
+      → (planAnswer m s g space ≡ record { number = k; place = p; count = 0; misplaced = 0 }) × (planSpace m s g space ≡ space)
   pub deadlock-refusal : (s g : State) (space : List ℕ) (k p : ℕ) → DeadlockRefused s g space k p
       → (deadlockAnswer s g space ≡ record { number = k; place = p; count = 0 }) × (deadlockSpace s g space ≡ space)
   pub replay-refusal : (s g : State) (lifts : List ℕ) (k p : ℕ) → ReplayRefused s g lifts k p
       → replayAnswer s g lifts ≡ record { number = k; verdict = noVerdict; place = p }
   -- and otherwise the answer is given, with what the lent space then holds
   pub plan-answers : (m : Method) (s g : State) (space : List ℕ) → Accepted s g → 4 * length s ≤ length space → (p : Plan) → outcome m s g ≡ plan p
-      → (planAnswer (numberOf m) s g space ≡ record { number = 0; place = 0; count = length p; changed = changed s g })
+      → (planAnswer (numberOf m) s g space ≡ record { number = 0; place = 0; count = length p; misplaced = misplacedCount s g })
       × (planSpace (numberOf m) s g space ≡ flat p ++ drop (2 * length p) space)
   pub deadlock-answers : (s g : State) (space : List ℕ) → Accepted s g → 2 * length s ≤ length space
       → (deadlockAnswer s g space ≡ record { number = 0; place = 0; count = length (deadlockLoop s g) })
@@ -119,8 +119,7 @@ pub record Theorems : Type 0 where
       → (replayAnswer s g lifts ≡ record { number = 0; verdict = v; place = k }) ↔ Replayed s g (moves lifts) v k
   -- question 13 is never answered no
   pub never-13 : (m : ℕ) (s g : State) (space : List ℕ) (p : ℕ) → ¬ PlanRefused m s g space 13 p
-  -- ---- the counts, and lists of numbers as lists of moves
-  pub changed-counts : (s g : State) → Counts (λ b. support s b ≢ support g b) (length s) (changed s g)
+  -- ---- lists of numbers as lists of moves
   pub pairs-back : (p : Plan) → moves (flat p) ≡ p
   pub pairs-forth : (l : List ℕ) → length l % 2 ≡ 0 → flat (moves l) ≡ l
   -- ---- demand 2: the lists of the methods
@@ -164,6 +163,6 @@ pub record Theorems : Type 0 where
   pub written-solves : (m : Method) (s g : State) (space : List ℕ) → Accepted s g → 4 * length s ≤ length space
       → Solves s g (moves (take (2 * (planAnswer (numberOf m) s g space) .count) (planSpace (numberOf m) s g space)))
   pub plan-fits : (m : Method) (s g : State) → Problem s g → (p : Plan) → outcome m s g ≡ plan p → 2 * length p ≤ 4 * length s
-  -- every legal plan that arrives moves every misplaced block, and so has at least as many moves
+  -- every legal plan that arrives moves every misplaced block; what their number promises
   pub moves-all : (s g : State) → Problem s g → (q : Plan) → Solves s g q → (b : ℕ) → Misplaced s g b → Moved b q
   pub head-count : (s g : State) → Problem s g → HeadCount s g (misplacedCount s g)

@@ -6,7 +6,6 @@ use mathlib.Core.List.{List, [], _∷_, _++_}
 use lib.ListN.{length, replicate}
 use Rattle.blocks.specs.State.{State}
 use Rattle.blocks.specs.Position.{Problem, Accepted}
-use Rattle.blocks.specs.Tests.{misplacedCount}
 use Rattle.blocks.specs.Method.{Method, numberOf}
 use Rattle.blocks.specs.Answer.{checkAnswer, planAnswer, planSpace, deadlockAnswer, deadlockSpace, replayAnswer}
 use Rattle.blocks.specs.Demands.{Fewest}
@@ -16,13 +15,12 @@ pub data Claim : Type 0 where
   gives : State → State → ℕ → List ℕ → Claim  -- the method writes this list
   takes : State → State → ℕ → ℕ → Claim  -- the method writes so many lifts
   shows : State → State → List ℕ → Claim  -- the deadlock test writes these pairs; none, where there is no deadlock
-  changes : State → State → ℕ → Claim  -- so many entries differ
-  misplaces : State → State → ℕ → Claim  -- so many slabs are misplaced
+  misplaces : State → State → ℕ → Claim  -- planning answers so many misplaced slabs
   needs : State → State → ℕ → Claim  -- the fewest lifts that could do
   replays : State → State → List ℕ → ℕ → ℕ → Claim  -- the list has this verdict and place
   refuses : State → ℕ → ℕ → Claim  -- with goals all 0 and as long: number and place
   refusesBoth : State → State → ℕ → ℕ → Claim  -- number and place of a check of both lists
-  refusesPlan : State → State → ℕ → ℕ → ℕ → Claim  -- by the method, with so many numbers lent: number, place 0
+  refusesPlan : State → State → ℕ → ℕ → ℕ → ℕ → Claim  -- by the method, with so many numbers lent: number, place
   refusesDeadlock : State → State → ℕ → ℕ → Claim  -- with so many numbers lent: number, place 0
   refusesReplay : State → State → List ℕ → ℕ → Claim  -- of the list: number, no verdict, place 0
 
@@ -44,14 +42,13 @@ Holds (shows s g l) =
     (deadlockSpace s g (lent (2 * length s)) ≡ onTop l (2 * length s))
     × (2 * (deadlockAnswer s g (lent (2 * length s))) .count ≡ length l)
     × ((deadlockAnswer s g (lent (2 * length s))) .number ≡ 0)
-Holds (changes s g c) = ((planAnswer 1 s g (lent (4 * length s))) .changed ≡ c) × ((planAnswer 1 s g (lent (4 * length s))) .number ≡ 0)
-Holds (misplaces s g c) = misplacedCount s g ≡ c
+Holds (misplaces s g c) = ((planAnswer 1 s g (lent (4 * length s))) .misplaced ≡ c) × ((planAnswer 1 s g (lent (4 * length s))) .number ≡ 0)
 Holds (needs s g k) = Fewest s g k
 Holds (replays s g l v p) = replayAnswer s g l ≡ record { number = 0; verdict = v; place = p }
 Holds (refuses s k p) = checkAnswer s (replicate (length s) 0) ≡ record { number = k; place = p }
 Holds (refusesBoth s g k p) = checkAnswer s g ≡ record { number = k; place = p }
-Holds (refusesPlan s g m n k) =
-    (planAnswer m s g (lent n) ≡ record { number = k; place = 0; count = 0; changed = 0 }) × (planSpace m s g (lent n) ≡ lent n)
+Holds (refusesPlan s g m n k p) =
+    (planAnswer m s g (lent n) ≡ record { number = k; place = p; count = 0; misplaced = 0 }) × (planSpace m s g (lent n) ≡ lent n)
 Holds (refusesDeadlock s g n k) = (deadlockAnswer s g (lent n) ≡ record { number = k; place = 0; count = 0 }) × (deadlockSpace s g (lent n) ≡ lent n)
 Holds (refusesReplay s g l k) = replayAnswer s g l ≡ record { number = k; verdict = 65535; place = 0 }
 
@@ -120,8 +117,7 @@ starred =
     gives S5now S5goal 2 (1 ∷ 0 ∷ 2 ∷ 0 ∷ 4 ∷ 3 ∷ 5 ∷ 2 ∷ 1 ∷ 5 ∷ []) ∷
     gives S5now S5goal 3 (1 ∷ 0 ∷ 2 ∷ 0 ∷ 4 ∷ 3 ∷ 5 ∷ 2 ∷ 1 ∷ 5 ∷ []) ∷
     shows S5now S5goal (1 ∷ 2 ∷ []) ∷
-    -- S6: changed 1, misplaced 2; method 2 lifts 1→0, 2→0, 1→2
-    changes S6now S6goal 1 ∷
+    -- S6: misplaced 2; method 2 lifts 1→0, 2→0, 1→2
     misplaces S6now S6goal 2 ∷
     gives S6now S6goal 2 (1 ∷ 0 ∷ 2 ∷ 0 ∷ 1 ∷ 2 ∷ []) ∷
     -- With goals all 0 and as long: now 2 1 5: number 4, place 3; now 0 1 1: number 5, place 3; now 1: number 6, place 1
@@ -167,16 +163,17 @@ ties =
     shows (3 ∷ 4 ∷ 5 ∷ 0 ∷ 0 ∷ []) (3 ∷ 5 ∷ 0 ∷ 0 ∷ 4 ∷ []) (1 ∷ 3 ∷ []) ∷
     []
 
--- "changed" counts every entry that differs and no other.
+-- Every misplaced slab is counted and no other, as the yard stands at the start.
 abbrev pub counts : List Claim
 counts =
-    changes S2now S2goal 2 ∷
-    changes S3now S3goal 3 ∷
-    changes S4now S4goal 2 ∷
-    changes S5now S5goal 4 ∷
-    changes (3 ∷ 1 ∷ 0 ∷ 5 ∷ 0 ∷ []) (3 ∷ 1 ∷ 4 ∷ 5 ∷ 0 ∷ []) 1 ∷
-    changes (0 ∷ 1 ∷ 2 ∷ []) (0 ∷ 1 ∷ 2 ∷ []) 0 ∷
-    -- two slabs of S6 are misplaced, and nobody can do with two lifts
+    misplaces S2now S2goal 2 ∷
+    misplaces S3now S3goal 3 ∷
+    misplaces S4now S4goal 2 ∷
+    misplaces S5now S5goal 4 ∷
+    misplaces (3 ∷ 1 ∷ 0 ∷ 5 ∷ 0 ∷ []) (3 ∷ 1 ∷ 4 ∷ 5 ∷ 0 ∷ []) 3 ∷
+    misplaces (0 ∷ 1 ∷ 2 ∷ []) (0 ∷ 1 ∷ 2 ∷ []) 0 ∷
+    -- S2 needs as many lifts as slabs are misplaced; S6, which has a deadlock, one more
+    needs S2now S2goal 2 ∷
     needs S6now S6goal 3 ∷
     []
 
@@ -221,10 +218,13 @@ refusals =
     refusesBoth (0 ∷ 0 ∷ 0 ∷ 0 ∷ []) (0 ∷ 1 ∷ 1 ∷ 4 ∷ []) 8 3 ∷
     refusesBoth (0 ∷ 0 ∷ 0 ∷ []) (0 ∷ 3 ∷ 2 ∷ []) 9 2 ∷
     -- 1: the method, before all else
-    refusesPlan S2now S2goal 0 8 1 ∷
-    refusesPlan (2 ∷ 1 ∷ 5 ∷ []) [] 4 0 1 ∷
+    refusesPlan S2now S2goal 0 8 1 0 ∷
+    refusesPlan (2 ∷ 1 ∷ 5 ∷ []) [] 4 0 1 0 ∷
+    -- a fault of the now list and of the goal list, asked by planning: counts 0, whatever the place is
+    refusesPlan (0 ∷ 1 ∷ 1 ∷ []) (0 ∷ 0 ∷ 0 ∷ []) 2 12 5 3 ∷
+    refusesPlan (2 ∷ 0 ∷ 0 ∷ []) (2 ∷ 1 ∷ 5 ∷ []) 3 12 7 3 ∷
     -- 10: one number too few
-    refusesPlan S2now S2goal 2 7 10 ∷
+    refusesPlan S2now S2goal 2 7 10 0 ∷
     refusesDeadlock S2now S2goal 3 10 ∷
     -- 11: an odd number of entries
     refusesReplay S2now S2goal (1 ∷ []) 11 ∷
@@ -239,7 +239,7 @@ pub record Limits : Type 0 where
   -- "Space of 4 × n passes, 4 × n − 1 does not." Likewise 2 × n for the deadlock test.
   pub room-passes : (m : Method) (s g : State) (space : List ℕ) → Accepted s g → length space ≡ 4 * length s → (planAnswer (numberOf m) s g space) .number ≡ 0
   pub room-refused : (m : Method) (s g : State) (space : List ℕ) → Accepted s g → length space + 1 ≡ 4 * length s
-      → planAnswer (numberOf m) s g space ≡ record { number = 10; place = 0; count = 0; changed = 0 }
+      → planAnswer (numberOf m) s g space ≡ record { number = 10; place = 0; count = 0; misplaced = 0 }
   pub pairs-pass : (s g : State) (space : List ℕ) → Accepted s g → length space ≡ 2 * length s → (deadlockAnswer s g space) .number ≡ 0
   pub pairs-refused : (s g : State) (space : List ℕ) → Accepted s g → length space + 1 ≡ 2 * length s
       → deadlockAnswer s g space ≡ record { number = 10; place = 0; count = 0 }

@@ -41,13 +41,9 @@ readyᵇ s g b = waitingᵇ s g b && (clearᵇ s (support g b) && inPositionᵇ 
 unfoldable pub perchedᵇ : State → State → ℕ → Bool
 perchedᵇ s g b = waitingᵇ s g b && not (eqb (support s b) 0)
 
--- How many blocks are misplaced.
+-- document 02, Job 2: "the number of misplaced slabs".
 unfoldable pub misplacedCount : State → State → ℕ
 misplacedCount s g = count (misplacedᵇ s g) (length s)
-
--- document 01: "changed", the count of slabs whose now and goal entries differ.
-unfoldable pub changed : State → State → ℕ
-changed s g = count (λ b. not (eqb (support s b) (support g b))) (length s)
 
 -- A misplaced block that is off the table now and in the goal: where it is put down first it costs a second move.
 unfoldable pub twiceᵇ : State → State → ℕ → Bool

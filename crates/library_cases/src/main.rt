@@ -2,7 +2,7 @@
 // A frame is four numbers: the operation, and the lengths of three lists; then the numbers of the lists: now, goal and a third.
 // Each number has 16 bits, high byte first.
 // Operation 1 checks a sheet: number, place. Operation 2 replays the third list: number, verdict, place.
-// Operation 3 plans, the third list being the method and the length of the lent space: number, place, count, changed, space.
+// Operation 3 plans, the third list being the method and the length of the lent space: number, place, count, misplaced, space.
 // Operation 4 tests for a deadlock, the third list being the same, its method not read: number, place, count, space.
 // The lent space holds 65535, 65534, 65533 and so on before: above every slab, and different at each place. What it holds afterwards
 // is told by the checksum of all its numbers, and then by the pairs at its front, as many as the count but at most 16.
@@ -165,13 +165,13 @@ fn tell_replayed(replayed: Replayed) {
 fn tell_planned(planned: Planned, space: &[u16]) {
     match planned {
         Planned::Refused { number, place } => tell_plan(number, place, 0, 0, space),
-        Planned::Made { count, changed } => tell_plan(0, 0, count, changed, space),
+        Planned::Made { count, misplaced } => tell_plan(0, 0, count, misplaced, space),
     }
 }
 
-fn tell_plan(number: u16, place: u16, count: usize, changed: usize, space: &[u16]) {
+fn tell_plan(number: u16, place: u16, count: usize, misplaced: usize, space: &[u16]) {
     tell_three(number, place, count);
-    tell_more(changed);
+    tell_more(misplaced);
     tell_space(space, count);
     tell_end();
 }

@@ -12,12 +12,12 @@ use Rattle.rows.specs.Rows.{Yard, rowCount, Fresh, Sized}
 use Rattle.rows.proofs.RowLaws.{sized-within}
 use Rattle.blocks.specs.State.{State}
 use Rattle.blocks.specs.Position.{Problem, Accepted}
-use Rattle.blocks.specs.Tests.{changed}
+use Rattle.blocks.specs.Tests.{misplacedCount}
 use Rattle.blocks.specs.Method.{Method, plan, methodOf, outcomeBy, planOf, planOutcome}
 use Rattle.blocks.specs.Steps as words
 use Rattle.blocks.specs.Question.{allYes, firstNo, IsMethod, isMethod, asksMethod, asksRoom, problemQuestions, planQuestions, PlanRefused}
 use Rattle.blocks.specs.Answer.{flat, moves, planned, written, planAnswer, planSpace}
-use Rattle.blocks.specs.Demands.{Promise}
+use Rattle.blocks.specs.Demands.{HeadCount, Promise}
 use Rattle.blocks.proofs.FlatLaws.{pairs-back, length-flat}
 use Rattle.blocks.proofs.QuestionLaws.{sentence-append}
 use Rattle.blocks.proofs.DecidedLaws.{method-decided, problem-yes}
@@ -46,6 +46,7 @@ refusal {m} {s} {g} {space} k p r =
       lent = sym (w .1);
       told = λ c d e. none-made e;
       promise = λ c d e. none-made e;
+      head-count = λ c d e. none-made e;
     }
   where
     none-made : {A : Type 0} {c d : ℕ} → Refused k p ≡ Made c d → A
@@ -126,7 +127,7 @@ module _ (m : ℕ) (s g : State) (space : List ℕ) (r : Named) (by : declared.M
         unfolding planAnswer planSpace planOutcome
         made-way {a} {space′} u = rw (u .made) (record {
           asked = sym yes;
-          answer = ap (λ k. answerOf (Made k (changed s g))) (v .count) ∙ sym (ap₂ (λ q o. planned q s g (planOf o)) yes given);
+          answer = ap (λ k. answerOf (Made k (misplacedCount s g))) (v .count) ∙ sym (ap₂ (λ q o. planned q s g (planOf o)) yes given);
           lent = v .written ∙ sym (ap₂ (λ q o. written q (flat (planOf o)) space) yes given);
           told = λ k j f b o.
               let count : u .count ≡ k = cc in
@@ -136,6 +137,9 @@ module _ (m : ℕ) (s g : State) (space : List ℕ) (r : Named) (by : declared.M
               let count : u .count ≡ k = cc in
               let same : asMethod by ≡ b = cc in
               subst (λ i. Promise i s g (moves (take (2 * k) space′))) same (promised (accept .problem) v (sym count));
+          head-count = λ k j f.
+              let misplaced : misplacedCount s g ≡ j = cc in
+              subst (HeadCount s g) misplaced (theorems .head-count s g (accept .problem));
         })
           where
             v : Ran (asMethod by) s g space (u .count) space′

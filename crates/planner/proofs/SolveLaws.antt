@@ -9,6 +9,7 @@ use lib.ListN.{length, length-append}
 use lib.Seq.{sets}
 use Rattle.lists.specs.Lists.{overwrite}
 use Rattle.lists.proofs.WriteLaws.{sets-front}
+use Rattle.lists.specs.Search.{count}
 use Rattle.rows.specs.Rows.{Yard}
 use Rattle.blocks.specs.State.{State}
 use Rattle.blocks.specs.Position.{Problem}
@@ -18,16 +19,19 @@ use Rattle.blocks.specs.Method.{Method, Us, Gn1, Gn2, plan, precede, iterate, f
 use Rattle.blocks.specs.Answer.{flat}
 use Rattle.blocks.proofs.MethodLaws.{enough}
 use Rattle.blocks.proofs.FlatLaws.{length-flat}
+use Rattle.problem.specs.Known.{misplacedIn}
+use Rattle.problem.proofs.CountLaws.{misplaced-in}
 use Rattle.statuses.specs.Modes.{stepOf, walksᵇ}
 use Rattle.statuses.specs.Kept.{Beginnable, Begun}
 use Rattle.statuses.specs.declared.Mode.{Mode}
-use Rattle.statuses.specs.declared.Mode.the-variants.{Clearing, Building}
+use Rattle.statuses.specs.declared.Mode.the-variants.{Building}
 use Rattle.runs.specs.Runs.{Steppable, Finished}
 use Rattle.runs.proofs.RunningLaws.{plans-written}
 use Rattle.runs.proofs.LoopRunLaws.{ran-steppable}
 use Rattle.runs.proofs.LentLaws as lent
 use Rattle.runs.proofs.LentLaws.{twice, run-plan, steps-flat}
-use Rattle.planner.specs.Answers.{modeOf, isUs, Solvable, Ran}
+use Rattle.planner.specs.Answers.{modeOf, isUs, Solvable, Ran, Solved}
+use Rattle.planner.specs.declared.Planned.the-variants.{Made}
 
 -- ---- the outcome of a method by its runs
 
@@ -106,3 +110,9 @@ module _ {s g : State} {y : Yard} {out : List ℕ} (w : Solvable s g y out) (m :
                 ∙ plans-written out p q
                 ∙ fits out (p ++ q) (w .problem .problem) (w .room) (omega (arith, first .ran .spent, h .ran .spent, length-append p q));
           }
+
+-- ---- the answer: what is misplaced, counted on the rows as the check left them, and the runs
+
+pub solved : {m : Method} {s g : State} {y : Yard} {out : List ℕ} {d k : ℕ} {out′ : List ℕ} → Solvable s g y out
+    → d ≡ count (misplacedIn y) (length s) → Ran m s g out k out′ → Solved m s g out (Made k d) out′
+solved {y = y} {k = k} w e v = record { count = k; ran = v; made = ap (Made k) (e ∙ misplaced-in y (w .problem .problem .initial) (w .start .stands)) }

@@ -10,13 +10,13 @@ use Rattle.rows.specs.Rows.{Yard, Sized}
 use Rattle.blocks.specs.State.{State}
 use Rattle.blocks.specs.Position.{Accepted}
 use Rattle.blocks.specs.Move.{Plan}
-use Rattle.blocks.specs.Tests.{changed}
+use Rattle.blocks.specs.Tests.{misplacedCount}
 use Rattle.blocks.specs.Method as method
 use Rattle.blocks.specs.Method.{plan, outcome, methodOf}
 use Rattle.blocks.specs.Steps as words
 use Rattle.blocks.specs.Question.{Asked, allYes, no′, firstNo, planQuestions}
 use Rattle.blocks.specs.Answer.{PlanAnswer, flat, moves, planAnswer, planSpace}
-use Rattle.blocks.specs.Demands.{Promise}
+use Rattle.blocks.specs.Demands.{HeadCount, Promise}
 use Rattle.problem.specs.Known.{AtStart}
 use Rattle.choices.specs.Choices.{Visits}
 use Rattle.statuses.specs.declared.Mode.{Mode}
@@ -48,23 +48,25 @@ isUs method.Us = true
 isUs method.Gn1 = false
 isUs method.Gn2 = false
 
--- document 01's number, place, lift count and "changed": on a refusal both counts are 0.
+-- document 01's number, place and lift count, and the misplaced: on a refusal both counts are 0.
 abbrev pub answerOf : Planned → PlanAnswer
-answerOf (Refused k p) = record { number = k; place = p; count = 0; changed = 0 }
-answerOf (Made c d) = record { number = 0; place = 0; count = c; changed = d }
+answerOf (Refused k p) = record { number = k; place = p; count = 0; misplaced = 0 }
+answerOf (Made c d) = record { number = 0; place = 0; count = c; misplaced = d }
 
 -- Which case of the answer says what of the questions.
 abbrev pub askedOf : Planned → Asked
 askedOf (Refused k p) = no′ k p
 askedOf (Made c d) = allYes
 
--- Planning: the case, document 01's numbers, the lent space whole; and of the list that is written that the method's words give it, and demand 3.
+-- Planning: the case, the numbers that are answered, the lent space whole; of the list that is written that the method's words give it, and demand 3; and what the
+-- count of misplaced blocks promises.
 pub record Plans (m : ℕ) (s g : State) (space : List ℕ) (r : Planned) (space′ : List ℕ) : Type 0 where
   pub asked : askedOf r ≡ firstNo (planQuestions m s g space)
   pub answer : answerOf r ≡ planAnswer m s g space
   pub lent : space′ ≡ planSpace m s g space
   pub told : (c d : ℕ) → r ≡ Made c d → (by : method.Method) → methodOf m ≡ some by → words.By by s g (moves (take (2 * c) space′))
   pub promise : (c d : ℕ) → r ≡ Made c d → (by : method.Method) → methodOf m ≡ some by → Promise by s g (moves (take (2 * c) space′))
+  pub head-count : (c d : ℕ) → r ≡ Made c d → HeadCount s g d
 
 -- A problem that has been checked, with its rows as the check left them, and room for the plan.
 pub record Solvable (s g : State) (y : Yard) (out : List ℕ) : Type 0 where
@@ -81,8 +83,8 @@ pub record Ran (m : method.Method) (s g : State) (out : List ℕ) (r : ℕ) (out
   pub count : r ≡ length moves
   pub written : out′ ≡ overwrite (flat moves) out
 
--- And how many supports the goal changes.
+-- And how many blocks are misplaced at the start.
 pub record Solved (m : method.Method) (s g : State) (out : List ℕ) (r : Planned) (out′ : List ℕ) : Type 0 where
   pub count : ℕ
   pub ran : Ran m s g out count out′
-  pub made : r ≡ Made count (changed s g)
+  pub made : r ≡ Made count (misplacedCount s g)

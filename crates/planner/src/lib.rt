@@ -10,10 +10,10 @@ use rows::ROWS;
 use rows::Yard;
 use statuses::Mode;
 
-// The answer to planning: the number and place of the first "no", or the count of moves and the count of blocks whose support the goal changes.
+// The answer to planning: the number and place of the first "no", or the count of moves and the count of blocks that are misplaced at the start.
 pub enum Planned {
     Refused { number: u16, place: u16 },
-    Made { count: usize, changed: usize },
+    Made { count: usize, misplaced: usize },
 }
 
 // Document 01's methods 1, 2 and 3.
@@ -77,11 +77,9 @@ pub fn solve(
     requires { ⌜ Solvable (now initial) (now goal) (now yard) (now out) ⌝ }
     ensures { λ r. ⌜ Solved (asMethod method) (now (initial .entry)) (now (goal .entry)) (now (out .entry)) r (now (out .exit)) ⌝ }
 {
+    let misplaced = problem::misplaced(yard, initial.len());
     let count = run_method(method, initial, goal, yard, out);
-    Planned::Made {
-        count,
-        changed: problem::changed(initial, goal),
-    }
+    Planned::Made { count, misplaced }
 }
 
 // The runs of a method on a copy of the initial state: US clears and then builds, the others make one run. Answers the count of moves.

@@ -1,7 +1,6 @@
 -- Loops over the blocks from 1 to n: what decides each test that a scan or a count asks. Assumes nothing.
-use Prim.Native.Nat.{ℕ, suc, _+_, _^_, _≤_, _<_}
-use mathlib.Core.Path.{_≡_, refl, sym, ap, _∙_}
-use mathlib.Core.Logic.{_≢_}
+use Prim.Native.Nat.{ℕ, suc, _+_, _≤_, _<_}
+use mathlib.Core.Path.{_≡_, ap}
 use mathlib.Core.Bool.{Bool, not}
 use mathlib.Core.List.{List}
 use native.Mathlib.Omega.{arith}
@@ -15,13 +14,14 @@ use Rattle.lists.specs.Search.{lowest, count}
 use Rattle.lists.proofs.ReflectLaws.{reflects-same}
 use Rattle.lists.proofs.SearchLaws.{count-ext}
 use Rattle.lists.proofs.ScanLaws.{Scanned, scan-begin, scan-next, scan-found, scan-none, Counted, counted-begin, counted-next, counted-fits, counted-end}
-use Rattle.blocks.specs.State.{State, support}
+use Rattle.rows.specs.Rows.{Yard, standsOf}
+use Rattle.blocks.specs.State.{State, most, support}
 use Rattle.blocks.specs.Position.{Proper}
-use Rattle.blocks.specs.Tests.{misplacedᵇ, misplacedCount, changed}
+use Rattle.blocks.specs.Tests.{misplacedᵇ, misplacedCount}
 use Rattle.blocks.specs.Question.{outsideᵇ, firstOutside}
 use Rattle.blocks.specs.Answer.{firstDifference}
 use Rattle.blocks.proofs.PositionLaws.{position-test}
-use Rattle.problem.specs.Known.{Standings}
+use Rattle.problem.specs.Known.{Standings, misplacedIn}
 
 -- ---- question 4: the entries up to i are at most n
 
@@ -93,51 +93,29 @@ module _ {st : List ℕ} {n i : ℕ} (w : Reached st n i) where
   pub reached-all : n ≤ i → 0 ≡ lowest (λ b. eqb (getD st b 0) 0) n
   reached-all h = scan-none (w .scanned) h
 
--- ---- c of the blocks up to i do not stand in position
+-- ---- c of the blocks up to i are misplaced
 
-abbrev off : List ℕ → ℕ → Bool
-off st b = not (eqb (getD st b 0) 2)
+pub record Misplacing (y : Yard) (n c i : ℕ) : Type 0 where
+  pub sized : 2 ≤ length y
+  pub small : n ≤ most
+  pub counted : Counted (misplacedIn y) n c i
 
-pub record Misplacing (st : List ℕ) (n c i : ℕ) : Type 0 where
-  pub room : n < length st
-  pub counted : Counted (off st) n c i
+pub misplacing-begin : {y : Yard} {n : ℕ} → 2 ≤ length y → n ≤ most → Misplacing y n 0 0
+misplacing-begin {y} h l = record { sized = h; small = l; counted = counted-begin (misplacedIn y) }
 
-pub misplacing-begin : {st : List ℕ} {n : ℕ} → n < length st → Misplacing st n 0 0
-misplacing-begin {st} h = record { room = h; counted = counted-begin (off st) }
+module _ {y : Yard} {n c i : ℕ} {t : Bool} (w : Misplacing y n c i) (e : t ≡ misplacedIn y (i + 1)) where
+  pub misplacing-next : i < n → Misplacing y n (c + boolByte t) (i + 1)
+  misplacing-next h = record { sized = w .sized; small = w .small; counted = counted-next t (w .counted) h (rw (add-one i) at e) }
 
-module _ {st : List ℕ} {n c i : ℕ} (w : Misplacing st n c i) where
-  pub misplacing-next : i < n → Misplacing st n (c + boolByte (not (eqb (getD st (i + 1) 0) 2))) (i + 1)
-  misplacing-next h = record { room = w .room; counted = counted-next (not (eqb (getD st (i + 1) 0) 2)) (w .counted) h (rw (add-one i)) }
+  pub misplacing-fits : i < n → Fits w64 (c + boolByte t)
+  misplacing-fits h = counted-fits t (w .counted) h (omega (arith, w .small))
 
-  pub misplacing-fits : i < n → n < 2 ^ 64 → Fits w64 (c + boolByte (not (eqb (getD st (i + 1) 0) 2)))
-  misplacing-fits h = counted-fits (not (eqb (getD st (i + 1) 0) 2)) (w .counted) h
+pub misplacing-end : {y : Yard} {n c i : ℕ} → Misplacing y n c i → n ≤ i → c ≡ count (misplacedIn y) n
+misplacing-end w h = counted-end (w .counted) h
 
-  pub misplacing-end : n ≤ i → c ≡ count (λ b. not (eqb (getD st b 0) 2)) n
-  misplacing-end h = counted-end (w .counted) h
-
--- they are the misplaced blocks
-pub off-misplaced : {s g : State} {st : List ℕ} → Proper s → Standings s g st → count (off st) (length s) ≡ misplacedCount s g
+-- they are the misplaced blocks of the state
+pub misplaced-in : {s g : State} (y : Yard) → Proper s → Standings s g (standsOf y) → count (misplacedIn y) (length s) ≡ misplacedCount s g
 unfolding misplacedCount misplacedᵇ
-off-misplaced {s} {g} {st} p w =
-    count-ext (off st) (misplacedᵇ s g) (length s) (λ b l h.
+misplaced-in {s} {g} y p w =
+    count-ext (misplacedIn y) (misplacedᵇ s g) (length s) (λ b l h.
     ap not (reflects-same (λ q. q) (λ q. q) (w .right b l h (p .grounded b)) (position-test s g p b)))
-
--- ---- c of the blocks up to i have another support in the goal
-
-pub record Changing (s g : State) (n c i : ℕ) : Type 0 where
-  pub all : n ≡ length s
-  pub counted : Counted (differs s g) n c i
-
-pub changing-begin : {s g : State} {n : ℕ} → n ≡ length s → Changing s g n 0 0
-changing-begin {s} {g} e = record { all = e; counted = counted-begin (differs s g) }
-
-module _ {s g : State} {n c i : ℕ} (w : Changing s g n c i) where
-  pub changing-next : i < n → Changing s g n (c + boolByte (not (eqb (getD s i 0) (getD g i 0)))) (i + 1)
-  changing-next h = record { all = w .all; counted = counted-next (not (eqb (getD s i 0) (getD g i 0))) (w .counted) h refl }
-
-  pub changing-fits : i < n → length s < 2 ^ 64 → Fits w64 (c + boolByte (not (eqb (getD s i 0) (getD g i 0))))
-  changing-fits h l = counted-fits (not (eqb (getD s i 0) (getD g i 0))) (w .counted) h (omega (arith, w .all))
-
-  pub changing-end : n ≤ i → c ≡ changed s g
-  unfolding changed
-  changing-end h = counted-end (w .counted) h ∙ ap (count (differs s g)) (w .all)

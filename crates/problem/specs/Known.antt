@@ -1,7 +1,7 @@
 -- What lists of numbers beside a state say of it: loads, and how each block stands at the start. Assumes nothing.
 use Prim.Native.Nat.{ℕ, _+_, _≤_, _<_}
 use mathlib.Core.Path.{_≡_}
-use mathlib.Core.Bool.{not, _&&_, cond}
+use mathlib.Core.Bool.{Bool, not, _&&_, cond}
 use mathlib.Core.List.{List}
 use lib.Dec.{eqb}
 use lib.ListN.{length, getD}
@@ -61,6 +61,10 @@ pub record Standings (s g : State) (st : List ℕ) : Type 0 where
 pub record Climbed (s g : State) (loads : ℕ) (y y′ : Yard) : Type 0 where
   pub stands : Standings s g (row y′ (loads + 1))
   pub within : Within (loads + 1) (loads + 2) y y′
+
+-- Whether block b is misplaced, by the row that says how the blocks stand.
+abbrev pub misplacedIn : Yard → ℕ → Bool
+misplacedIn y b = not (eqb (getD (standsOf y) b 0) 2)
 
 -- The loads of both states, and how the blocks stand.
 pub record AtStart (s g : State) (y : Yard) : Type 0 where

@@ -6,17 +6,17 @@ ghost use lib.Dec.{eqb};
 ghost use lib.ListN.{length, getD};
 ghost use Rattle.lists.specs.Search.{pick, lowest, count};
 ghost use Rattle.blocks.specs.State.{most};
-ghost use Rattle.blocks.specs.Tests.{changed};
 ghost use Rattle.blocks.specs.Question.{firstOutside};
 ghost use Rattle.blocks.specs.Answer.{firstDifference};
 ghost use Rattle.rows.specs.Rows.{Fresh};
-ghost use Rattle.problem.specs.Known.{Fillable, Filled, standsAs, Standable, Climbable, Climbed, Movable, MovedTo};
+ghost use Rattle.problem.specs.Known.{Fillable, Filled, standsAs, Standable, Climbable, Climbed, misplacedIn, Movable, MovedTo};
 ghost use Rattle.problem.specs.Checked.{askedOf, Checks, faultOf, Surveyable, Surveyed, Examines};
 use rows::CHECKED;
 use rows::GOAL_LOADS;
 use rows::LOADS;
 use rows::MOST;
 use rows::ROW;
+use rows::STANDS;
 
 // The answer to a check: accepted, or the number and place of the first "no".
 pub enum Checked {
@@ -251,33 +251,26 @@ fn any_floating(stands: &[u16], n: usize) -> bool
     any
 }
 
-// How many blocks from 1 to n do not stand in position.
-pub fn misplaced(stands: &[u16], n: usize) -> usize
-    requires { ⌜ n < length (now stands) ⌝ }
-    ensures { λ r. ⌜ r ≡ count (λ b. not (eqb (getD (now (stands .entry)) b 0) 2)) n ⌝ }
+// How many blocks from 1 to n are misplaced, by the row that says how each stands.
+pub fn misplaced(rows: &[[u16; ROW]], n: usize) -> usize
+    requires { ⌜ (2 ≤ length (now rows)) × (n ≤ most) ⌝ }
+    ensures { λ r. ⌜ r ≡ count (misplacedIn (now (rows .entry))) n ⌝ }
 {
     let mut c = 0;
     let mut i = 0;
     while i < n {
-        c += (stands[i + 1] != 2) as usize;
+        c += is_misplaced(rows, i + 1) as usize;
         i += 1;
     }
     c
 }
 
-// document 01, "changed": how many entries differ.
-pub fn changed(initial: &[u16], goal: &[u16]) -> usize
-    requires { ⌜ length (now goal) ≡ length (now initial) ⌝ }
-    ensures { λ r. ⌜ r ≡ changed (now (initial .entry)) (now (goal .entry)) ⌝ }
+// Whether block b is misplaced: it does not stand in position.
+fn is_misplaced(rows: &[[u16; ROW]], b: usize) -> bool
+    requires { ⌜ (2 ≤ length (now rows)) × (b ≤ most) ⌝ }
+    ensures { λ r. ⌜ r ≡ misplacedIn (now (rows .entry)) b ⌝ }
 {
-    let n = initial.len();
-    let mut c = 0;
-    let mut i = 0;
-    while i < n {
-        c += (initial[i] != goal[i]) as usize;
-        i += 1;
-    }
-    c
+    rows[STANDS][b] != 2
 }
 
 // A legal move of block a to x: the state and its loads afterwards. Entry 0 of `load` takes what concerns the table, and says nothing.

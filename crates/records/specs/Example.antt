@@ -15,7 +15,7 @@ input = 72 ∷ 68 ∷ 0 ∷ 2 ∷ 0 ∷ 2 ∷ 78 ∷ 87 ∷ 0 ∷ 2 ∷ 78 ∷ 8
 abbrev pub output : List ℕ
 output = 80 ∷ 76 ∷ 0 ∷ 2 ∷ 0 ∷ 2 ∷ 76 ∷ 70 ∷ 0 ∷ 1 ∷ 0 ∷ 0 ∷ 76 ∷ 70 ∷ 0 ∷ 2 ∷ 0 ∷ 1 ∷ []
 
--- Two slabs by method 2, now 2 0, goal 0 1; two lifts and two slabs changed, the lifts 1 to the ground and 2 onto 1.
+-- Two slabs by method 2, now 2 0, goal 0 1; two lifts and two slabs misplaced, the lifts 1 to the ground and 2 onto 1.
 pub record Example : Type 0 where
   pub head : recordAt Hd input 0 ≡ Record 2 2
   pub initial : entriesAt Nw input 6 2 ≡ 2 ∷ 0 ∷ []

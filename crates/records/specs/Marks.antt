@@ -16,7 +16,7 @@ marks =
     ∷ record { high = 78; low = 87; fields = 1 }
     -- GL, 47 4C: goal entry
     ∷ record { high = 71; low = 76; fields = 1 }
-    -- PL, 50 4C: lift count, changed
+    -- PL, 50 4C: lift count, misplaced
     ∷ record { high = 80; low = 76; fields = 2 }
     -- LF, 4C 46: slab, destination
     ∷ record { high = 76; low = 70; fields = 2 }

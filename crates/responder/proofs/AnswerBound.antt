@@ -33,7 +33,7 @@ plan-fits c d p h =
 
 records-fit : (m : ℕ) (s g : State) (space : List ℕ) → firstNo (planQuestions m s g space) ≡ allYes → length (planRecords m s g space) ≤ longest
 records-fit m s g space all =
-    plan-fits (planAnswer m s g space .count) (planAnswer m s g space .changed) (planOf (planOutcome m s g)) (lifts-le m s g space all)
+    plan-fits (planAnswer m s g space .count) (planAnswer m s g space .misplaced) (planOf (planOutcome m s g)) (lifts-le m s g space all)
 
 sheet-fits : (n m : ℕ) (bytes : List ℕ) → length (sheetResponse n m bytes) ≤ longest
 unfolding sheetResponse

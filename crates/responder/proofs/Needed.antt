@@ -52,7 +52,7 @@ first-of n m bytes p = by (firstNo (sheetQuestions n m bytes)) refl
     g = goals bytes 0 n
 
     apart : planRecords m s g (lent n) ≡ refusalBytes 12 p → ⊥
-    apart = plan-not-refusal (planAnswer m s g (lent n) .count) (planAnswer m s g (lent n) .changed) (planOf (planOutcome m s g)) 12 p
+    apart = plan-not-refusal (planAnswer m s g (lent n) .count) (planAnswer m s g (lent n) .misplaced) (planOf (planOutcome m s g)) 12 p
 
     by : (a : Asked) → firstNo (sheetQuestions n m bytes) ≡ a → reply a (planRecords m (nows bytes 0 n) (goals bytes 0 n) (lent n)) ≡ refusalBytes 12 p
         → FirstNo (sheetQuestions n m bytes) 12 p

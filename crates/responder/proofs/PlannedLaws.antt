@@ -7,14 +7,14 @@ use native.Mathlib.Omega.{arith}
 use lib.ListN.{length, take, drop, length-append}
 use Rattle.blocks.specs.State.{State, most}
 use Rattle.blocks.specs.Position.{Problem}
-use Rattle.blocks.specs.Tests.{changed}
+use Rattle.blocks.specs.Tests.{misplacedCount}
 use Rattle.blocks.specs.Move.{Plan}
 use Rattle.blocks.specs.Method.{Outcome, plan, nothingToPutDown, Method, outcome, methodOf, outcomeBy, planOf, planOutcome}
 use Rattle.blocks.specs.Question.{allYes, firstNo, planQuestions}
 use Rattle.blocks.specs.Answer.{flat, moves, planned, written, planAnswer, planSpace}
 use Rattle.lists.specs.Lists.{overwrite}
-use Rattle.lists.proofs.SearchLaws.{count-le}
 use Rattle.lists.proofs.WriteLaws.{overwrite-front}
+use Rattle.blocks.proofs.MeasureLaws.{misplaced-le}
 use Rattle.blocks.proofs.FlatLaws.{pairs-back, length-flat}
 use Rattle.blocks.proofs.AnsweredLaws.{plan-accepts}
 use Rattle.blocks.proofs.Theorems.{theorems}
@@ -41,10 +41,6 @@ short-plan m s g q = by (methodOf m)
 pub lifts-le : (m : ℕ) (s g : State) (space : List ℕ) → firstNo (planQuestions m s g space) ≡ allYes → length (planOf (planOutcome m s g)) ≤ 2 * most
 lifts-le m s g space all = let a = plan-accepts m s g space .0 all .1 in omega (arith, short-plan m s g (a .problem), a .small)
 
-pub changed-le : (s g : State) → changed s g ≤ length s
-unfolding changed
-changed-le s g = count-le _ (length s)
-
 -- ---- a plan was made
 
 module _ {m : ℕ} {s g : State} {space : List ℕ} {c d : ℕ} {space′ : List ℕ} (v : Plans m s g space (Made c d) space′) where
@@ -54,15 +50,15 @@ module _ {m : ℕ} {s g : State} {space : List ℕ} {c d : ℕ} {space′ : List
   pub made-yes : firstNo (planQuestions m s g space) ≡ allYes
   made-yes = sym (v .asked)
 
-  numbers : record { number = 0; place = 0; count = c; changed = d } ≡ planned allYes s g lifts
+  numbers : record { number = 0; place = 0; count = c; misplaced = d } ≡ planned allYes s g lifts
   unfolding planAnswer
   numbers = v .answer ∙ ap (λ a. planned a s g lifts) made-yes
 
   count : c ≡ length lifts
   count = ap (λ a. a .count) numbers
 
-  changes : d ≡ changed s g
-  changes = ap (λ a. a .changed) numbers
+  misplaced : d ≡ misplacedCount s g
+  misplaced = ap (λ a. a .misplaced) numbers
 
   lent-list : space′ ≡ overwrite (flat lifts) space
   unfolding planSpace
@@ -78,15 +74,15 @@ module _ {m : ℕ} {s g : State} {space : List ℕ} {c d : ℕ} {space′ : List
   pub made-records : (other : List ℕ) → firstNo (planQuestions m s g other) ≡ allYes → replyOf (Made c d) space′ ≡ planRecords m s g other
   unfolding planAnswer
   made-records other all =
-      ap₂ (λ i j. planBytes i j (moves (take (2 * c) space′))) count changes
-      ∙ ap (planBytes (length lifts) (changed s g)) front
-      ∙ sym (ap (λ a. planBytes (planned a s g lifts .count) (planned a s g lifts .changed) lifts) all)
+      ap₂ (λ i j. planBytes i j (moves (take (2 * c) space′))) count misplaced
+      ∙ ap (planBytes (length lifts) (misplacedCount s g)) front
+      ∙ sym (ap (λ a. planBytes (planned a s g lifts .count) (planned a s g lifts .misplaced) lifts) all)
 
   pub made-writable : Writable (Made c d) space′
   made-writable = record { counts = bounds }
     where
-      few : changed s g ≤ most
-      few = omega (arith, changed-le s g, plan-accepts m s g space .0 made-yes .1 .small)
+      few : misplacedCount s g ≤ most
+      few = omega (arith, misplaced-le s g, plan-accepts m s g space .0 made-yes .1 .small)
 
       within : 2 * c ≤ length space′
       within = omega (arith, pairs, ap length lent-list, length-append (flat lifts) (drop (length (flat lifts)) space))
@@ -95,4 +91,4 @@ module _ {m : ℕ} {s g : State} {space : List ℕ} {c d : ℕ} {space′ : List
       bounds i j e =
           let same : c ≡ i = cc in
           let alike : d ≡ j = cc in
-          (omega (arith, count, lifts-le m s g space made-yes), omega (arith, changes, few), omega (arith, within))
+          (omega (arith, count, lifts-le m s g space made-yes), omega (arith, misplaced, few), omega (arith, within))

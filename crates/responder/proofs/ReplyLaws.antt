@@ -48,8 +48,8 @@ module _ {a : Planned} {c d : ℕ} {pairs : List ℕ} (w : Writable a pairs) (e 
   pub count-fits : c < 2 ^ 16
   count-fits = omega (arith, counts .0)
 
-  pub changed-fits : d < 2 ^ 16
-  changed-fits = omega (arith, counts .1)
+  pub misplaced-fits : d < 2 ^ 16
+  misplaced-fits = omega (arith, counts .1)
 
   pub moves-fit : {x y : ℕ} {out : List ℕ} {at : ℕ} {out₁ : List ℕ} → Roomy out → PutRecord Pl x y 0 out at out₁ → length out₁ ≡ length out
       → MovesFit c pairs out₁ at

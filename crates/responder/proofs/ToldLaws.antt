@@ -10,11 +10,12 @@ use lib.ListN.{length, length-append, length-replicate}
 use Rattle.lists.specs.Search.{pick}
 use Rattle.blocks.specs.State.{State, most}
 use Rattle.blocks.specs.Move.{_⟶_, Plan}
-use Rattle.blocks.specs.Tests.{changed}
+use Rattle.blocks.specs.Tests.{misplacedCount}
 use Rattle.blocks.specs.Method.{Method, Us, Gn1, Gn2, plan, outcome, numberOf, methodOf, outcomeBy, planOf, planOutcome}
 use Rattle.blocks.specs.Question.{Asked, allYes, no′, IsMethod}
 use Rattle.blocks.specs.Answer.{PlanAnswer}
 use Rattle.blocks.specs.Demands.{Promise, Economy}
+use Rattle.blocks.proofs.MeasureLaws.{misplaced-le}
 use Rattle.blocks.proofs.QuestionLaws.{clash}
 use Rattle.blocks.proofs.Theorems.{theorems}
 use Rattle.records.specs.Marks.{marks, markOf, size}
@@ -30,7 +31,6 @@ use Rattle.responder.specs.Refusals.{asked, Complete, ProgramRefused}
 use Rattle.responder.specs.Told.{andLift, liftsAt, TellsPlan, Tells, Told}
 use Rattle.responder.proofs.SizeLaws.{size-lf}
 use Rattle.responder.proofs.MoveLaws.{length-move-bytes}
-use Rattle.responder.proofs.PlannedLaws.{changed-le}
 use Rattle.responder.proofs.FieldLaws.{plan-bytes, refusal-bytes}
 use Rattle.responder.proofs.RefusalLaws.{head-found, all-yes, refused-response, refusals}
 
@@ -109,7 +109,7 @@ module _ (bytes : List ℕ) (n : ℕ) (by : Method) (same : methodOf (numberOf b
   p = demand .0
 
   abbrev answer : List ℕ
-  answer = planBytes (length p) (changed s g) p
+  answer = planBytes (length p) (misplacedCount s g) p
 
   room : 4 * length s ≤ length (lent n)
   room = omega (arith, w .nows-read .long, length-replicate {A = ℕ} (4 * n) 0)
@@ -118,7 +118,7 @@ module _ (bytes : List ℕ) (n : ℕ) (by : Method) (same : methodOf (numberOf b
   unfolding planOutcome
   written =
       let lifts : planOf (outcomeBy (methodOf (numberOf by)) s g) ≡ p = ap (λ o. planOf (outcomeBy o s g)) same ∙ ap planOf (demand .1) in
-      ap₂ (λ (a : PlanAnswer) q. planBytes (a .count) (a .changed) q) (theorems .plan-answers by s g (lent n) (w .accepted) room p (demand .1) .0) lifts
+      ap₂ (λ (a : PlanAnswer) q. planBytes (a .count) (a .misplaced) q) (theorems .plan-answers by s g (lent n) (w .accepted) room p (demand .1) .0) lifts
 
   plan-response : responseTo bytes ≡ answer
   unfolding responseTo sheetResponse
@@ -129,16 +129,16 @@ module _ (bytes : List ℕ) (n : ℕ) (by : Method) (same : methodOf (numberOf b
 
   lifts-read : liftsAt answer (size Pl) (length p) ≡ p
   lifts-read =
-      let head : List ℕ = recordBytes Pl (length p ∷ changed s g ∷ []) in
-      ap₂ (λ l i. liftsAt (head ++ l) i (length p)) (sym (append-nil (moveBytes p))) (sym (length-record Pl (length p) (changed s g)))
+      let head : List ℕ = recordBytes Pl (length p ∷ misplacedCount s g ∷ []) in
+      ap₂ (λ l i. liftsAt (head ++ l) i (length p)) (sym (append-nil (moveBytes p))) (sym (length-record Pl (length p) (misplacedCount s g)))
       ∙ lifts-back head p []
 
   long : length answer ≡ size Pl + length p * size Lf
   long =
       let six : length p * size Lf ≡ 6 * length p = rw size-lf (omega arith) in
-      length-append (recordBytes Pl (length p ∷ changed s g ∷ [])) (moveBytes p) ∙ omega (arith, length-record Pl (length p) (changed s g), length-move-bytes p, six)
+      length-append (recordBytes Pl (length p ∷ misplacedCount s g ∷ [])) (moveBytes p) ∙ omega (arith, length-record Pl (length p) (misplacedCount s g), length-move-bytes p, six)
 
-  tells-plan : TellsPlan bytes answer (length p) (changed s g)
+  tells-plan : TellsPlan bytes answer (length p) (misplacedCount s g)
   tells-plan =
       record {
         n = n;
@@ -146,7 +146,7 @@ module _ (bytes : List ℕ) (n : ℕ) (by : Method) (same : methodOf (numberOf b
         sheet = w;
         lifts = ap length lifts-read;
         end = long;
-        changes = refl;
+        head-count = theorems .head-count s g (w .accepted .problem);
         given = demand .1 ∙ ap plan (sym lifts-read);
         told = theorems .methods by s g (w .accepted .problem) (liftsAt answer (size Pl) (length p)) .0 (demand .1 ∙ ap plan (sym lifts-read));
         promise = subst (Promise by s g) (sym lifts-read) (demand .2);
@@ -154,13 +154,13 @@ module _ (bytes : List ℕ) (n : ℕ) (by : Method) (same : methodOf (numberOf b
 
   plan-tells : Tells bytes answer
   plan-tells =
-      let read = plan-read (length p) (changed s g) p in
+      let read = plan-read (length p) (misplacedCount s g) p in
       record {
-        either = inl (length p, changed s g, read);
-        planned = (λ _. (length p, changed s g, read), λ _. (n, numberOf by, w));
+        either = inl (length p, misplacedCount s g, read);
+        planned = (λ _. (length p, misplacedCount s g, read), λ _. (n, numberOf by, w));
         promised = promised;
         refused = λ k q. (λ r. absurd (clash (sym yes ∙ refusals .refuses bytes k q .1 r)), λ e. absurd (other k q e));
-        small = plan-bytes (length p) (changed s g) p s few less (w .accepted .small) (demand .2 .solves .legal);
+        small = plan-bytes (length p) (misplacedCount s g) p s few less (w .accepted .small) (demand .2 .solves .legal);
       }
     where
       yes : asked bytes ≡ allYes
@@ -169,18 +169,18 @@ module _ (bytes : List ℕ) (n : ℕ) (by : Method) (same : methodOf (numberOf b
       few : length p ≤ 2 * most
       few = omega (arith, theorems .plan-fits by s g (w .accepted .problem) p (demand .1), w .accepted .small)
 
-      less : changed s g ≤ most
-      less = omega (arith, changed-le s g, w .accepted .small)
+      less : misplacedCount s g ≤ most
+      less = omega (arith, misplaced-le s g, w .accepted .small)
 
       promised : (c d : ℕ) → recordAt Pl answer 0 ≡ Record c d → TellsPlan bytes answer c d
       promised c d e =
-          let both : Record (length p) (changed s g) ≡ Record c d = sym (plan-read (length p) (changed s g) p) ∙ e in
+          let both : Record (length p) (misplacedCount s g) ≡ Record c d = sym (plan-read (length p) (misplacedCount s g) p) ∙ e in
           let count : length p ≡ c = cc in
-          let changes : changed s g ≡ d = cc in
-          subst (λ j. TellsPlan bytes answer c j) changes (subst (λ i. TellsPlan bytes answer i (changed s g)) count tells-plan)
+          let misplaced : misplacedCount s g ≡ d = cc in
+          subst (λ j. TellsPlan bytes answer c j) misplaced (subst (λ i. TellsPlan bytes answer i (misplacedCount s g)) count tells-plan)
 
       other : (k q : ℕ) → answer ≡ refusalBytes k q → ⊥
-      other k q e = plan-not-refusal (length p) (changed s g) p k q e
+      other k q e = plan-not-refusal (length p) (misplacedCount s g) p k q e
 
 -- ---- a refusal
 

@@ -13,12 +13,12 @@ one h l x = h ∷ l ∷ 0 ∷ x ∷ []
 abbrev two : ℕ → ℕ → ℕ → ℕ → List ℕ
 two h l x y = h ∷ l ∷ 0 ∷ x ∷ 0 ∷ y ∷ []
 
--- S6 by method 2: three lifts, changed 1.
+-- S6 by method 2: three lifts, misplaced 2.
 abbrev pub s6 : List ℕ
 s6 = two 72 68 3 2 ++ (one 78 87 2 ++ (one 78 87 3 ++ (one 78 87 0 ++ (one 71 76 2 ++ (one 71 76 0 ++ one 71 76 0)))))
 
 abbrev pub s6Lifts : List ℕ
-s6Lifts = two 80 76 3 1 ++ (two 76 70 1 0 ++ (two 76 70 2 0 ++ two 76 70 1 2))
+s6Lifts = two 80 76 3 2 ++ (two 76 70 1 0 ++ (two 76 70 2 0 ++ two 76 70 1 2))
 
 -- Now 2 1 5, goals all 0: number 4, place 3.
 abbrev pub firstOutside : List ℕ

@@ -70,9 +70,9 @@ abbrev pub moveBytes : Plan → List ℕ
 moveBytes [] = []
 moveBytes ((a ⟶ x) ∷ p) = recordBytes Lf (a ∷ x ∷ []) ++ moveBytes p
 
--- PL: lift count and changed, and then the LF records.
+-- PL: lift count and, by document 02, Job 2, the number of misplaced slabs; and then the LF records.
 abbrev pub planBytes : ℕ → ℕ → Plan → List ℕ
-planBytes count changed p = recordBytes Pl (count ∷ changed ∷ []) ++ moveBytes p
+planBytes count misplaced p = recordBytes Pl (count ∷ misplaced ∷ []) ++ moveBytes p
 
 abbrev pub reply : Asked → List ℕ → List ℕ
 reply allYes bytes = bytes
@@ -80,9 +80,9 @@ reply (no′ k p) bytes = refusalBytes k p
 
 -- ---- the answer
 
--- The records of a plan: its count and "changed" as planning answers them, and its lifts.
+-- The records of a plan: its count and that of the misplaced as planning answers them, and its lifts.
 abbrev pub planRecords : ℕ → State → State → List ℕ → List ℕ
-planRecords m s g space = planBytes (planAnswer m s g space .count) (planAnswer m s g space .changed) (planOf (planOutcome m s g))
+planRecords m s g space = planBytes (planAnswer m s g space .count) (planAnswer m s g space .misplaced) (planOf (planOutcome m s g))
 
 -- To the sheet of a head that says n and m: the first "no", or the plan's records.
 unfoldable pub sheetResponse : ℕ → ℕ → List ℕ → List ℕ

@@ -6,10 +6,9 @@ use mathlib.Core.Logic.{_⊎_, _↔_}
 use mathlib.Core.List.{List, [], _∷_}
 use lib.ListN.{length}
 use Rattle.blocks.specs.Move.{_⟶_, Plan}
-use Rattle.blocks.specs.Tests.{changed}
 use Rattle.blocks.specs.Method.{Method, plan, outcome, numberOf}
 use Rattle.blocks.specs.Steps.{By}
-use Rattle.blocks.specs.Demands.{Promise}
+use Rattle.blocks.specs.Demands.{HeadCount, Promise}
 use Rattle.records.specs.Marks.{size}
 use Rattle.records.specs.Records.{recordAt}
 use Rattle.records.specs.RoundTrip.{Bytes}
@@ -34,15 +33,15 @@ liftsAt bytes at (suc c) = andLift (recordAt Lf bytes at) (liftsAt bytes (at + s
 
 -- ---- what an answer tells of an input
 
--- Of PL with c lifts and d changed: behind it stand c LF records and nothing more. They are the list that the method of the head, by its words too, gives
--- for the sheet of the NW and GL records, and it keeps demand 3.
+-- Of PL with c lifts and d misplaced: behind it stand c LF records and nothing more. They are the list that the method of the head, by its words too, gives
+-- for the sheet of the NW and GL records, and it keeps demand 3. So many slabs of the sheet are misplaced, and what that promises holds too.
 pub record TellsPlan (bytes answer : List ℕ) (c d : ℕ) : Type 0 where
   pub n : ℕ
   pub method : Method
   pub sheet : Complete bytes n (numberOf method)
   pub lifts : length (liftsAt answer (size Pl) c) ≡ c
   pub end : length answer ≡ size Pl + c * size Lf
-  pub changes : d ≡ changed (nows bytes 0 n) (goals bytes 0 n)
+  pub head-count : HeadCount (nows bytes 0 n) (goals bytes 0 n) d
   pub given : outcome method (nows bytes 0 n) (goals bytes 0 n) ≡ plan (liftsAt answer (size Pl) c)
   pub told : By method (nows bytes 0 n) (goals bytes 0 n) (liftsAt answer (size Pl) c)
   pub promise : Promise method (nows bytes 0 n) (goals bytes 0 n) (liftsAt answer (size Pl) c)

@@ -136,8 +136,8 @@ fn write_answer(answer: Planned, pairs: &[u16], out: &mut [u8]) -> usize
 {
     match answer {
         Planned::Refused { number, place } => records::put_record(Kind::No, number, place, out, 0),
-        Planned::Made { count, changed } => {
-            let at = records::put_record(Kind::Pl, count as u16, changed as u16, out, 0);
+        Planned::Made { count, misplaced } => {
+            let at = records::put_record(Kind::Pl, count as u16, misplaced as u16, out, 0);
             write_moves(count, pairs, out, at)
         }
     }

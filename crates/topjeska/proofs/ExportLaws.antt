@@ -46,7 +46,7 @@ plan-number : (m : ℕ) (s g : State) (space : List ℕ) (k p : ℕ) → PlanRef
 plan-number m s g space k p r = other-number (planQuestions m s g space) 0 (ap (memberᵇ 0) (plan-order m s g space)) k p r
 
 module _ {m : ℕ} {s g : State} {space : List ℕ} {r : planned.Planned} {space′ : List ℕ} (w : planner.Plans m s g space r space′) where
-  pub plan-refused : {k p : ℕ} → r ≡ planned.the-variants.Refused k p → ExportsPlan m s g space (record { refusal = k; place = p; count = 0; changed = 0 }) space′
+  pub plan-refused : {k p : ℕ} → r ≡ planned.the-variants.Refused k p → ExportsPlan m s g space (record { refusal = k; place = p; count = 0; misplaced = 0 }) space′
   plan-refused {k} {p} e =
       let n : k ≢ 0 = plan-number m s g space k p (theorems .plan-refuses m s g space k p .0 (sym (w .asked) ∙ ap planner.askedOf e)) in
       record {
@@ -54,10 +54,18 @@ module _ {m : ℕ} {s g : State} {space : List ℕ} {r : planned.Planned} {space
         lent = w .lent;
         told = λ z. absurd (n z);
         promise = λ z. absurd (n z);
+        head-count = λ z. absurd (n z);
       }
 
-  pub plan-made : {c d : ℕ} → r ≡ planned.the-variants.Made c d → ExportsPlan m s g space (record { refusal = 0; place = 0; count = c; changed = d }) space′
-  plan-made {c} {d} e = record { answer = ap planner.answerOf (sym e) ∙ w .answer; lent = w .lent; told = λ _. w .told c d e; promise = λ _. w .promise c d e }
+  pub plan-made : {c d : ℕ} → r ≡ planned.the-variants.Made c d → ExportsPlan m s g space (record { refusal = 0; place = 0; count = c; misplaced = d }) space′
+  plan-made {c} {d} e =
+      record {
+        answer = ap planner.answerOf (sym e) ∙ w .answer;
+        lent = w .lent;
+        told = λ _. w .told c d e;
+        promise = λ _. w .promise c d e;
+        head-count = λ _. w .head-count c d e;
+      }
 
 -- ---- the deadlock test
 

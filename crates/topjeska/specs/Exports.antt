@@ -12,7 +12,7 @@ use Rattle.blocks.specs.Answer as answer
 use Rattle.blocks.specs.Answer.{moves, planAnswer, planSpace, deadlockAnswer, deadlockSpace, replayAnswer}
 use Rattle.blocks.specs.Method.{methodOf, Method}
 use Rattle.blocks.specs.Steps.{By}
-use Rattle.blocks.specs.Demands.{Promise, NoDeadlock, Shown}
+use Rattle.blocks.specs.Demands.{HeadCount, Promise, NoDeadlock, Shown}
 use Rattle.topjeska.specs.declared.CheckAnswer.{CheckAnswer}
 use Rattle.topjeska.specs.declared.PlanAnswer.{PlanAnswer}
 use Rattle.topjeska.specs.declared.DeadlockAnswer.{DeadlockAnswer}
@@ -26,7 +26,7 @@ abbrev pub asCheck : CheckAnswer → answer.CheckAnswer
 asCheck r = record { number = r .refusal; place = r .place }
 
 abbrev pub asPlan : PlanAnswer → answer.PlanAnswer
-asPlan r = record { number = r .refusal; place = r .place; count = r .count; changed = r .changed }
+asPlan r = record { number = r .refusal; place = r .place; count = r .count; misplaced = r .misplaced }
 
 abbrev pub asDeadlock : DeadlockAnswer → answer.DeadlockAnswer
 asDeadlock r = record { number = r .refusal; place = r .place; count = r .count }
@@ -37,12 +37,14 @@ asReplay r = record { number = r .refusal; verdict = r .verdict; place = r .plac
 abbrev pub asTraining : TrainingAnswer → answer.CheckAnswer
 asTraining r = record { number = r .refusal; place = r .place }
 
--- Planning: the answer that the definition gives, the lent space whole; and of the list that is written that the method's words give it, and demand 3.
+-- Planning: the answer that the definition gives, the lent space whole; of the list that is written that the method's words give it, and demand 3; and what
+-- the count of misplaced blocks promises.
 pub record ExportsPlan (m : ℕ) (s g : State) (space : List ℕ) (r : PlanAnswer) (space′ : List ℕ) : Type 0 where
   pub answer : asPlan r ≡ planAnswer m s g space
   pub lent : space′ ≡ planSpace m s g space
   pub told : r .refusal ≡ 0 → (method : Method) → methodOf m ≡ some method → By method s g (moves (take (2 * r .count) space′))
   pub promise : r .refusal ≡ 0 → (method : Method) → methodOf m ≡ some method → Promise method s g (moves (take (2 * r .count) space′))
+  pub head-count : r .refusal ≡ 0 → HeadCount s g (r .misplaced)
 
 -- The deadlock test: the answer that the definition gives, the lent space whole; count 0 says that no blocks are deadlocked at the start, another count
 -- that the pairs show blocks that are.

@@ -21,7 +21,7 @@ pub struct PlanAnswer {
     pub refusal: u64,
     pub place: u64,
     pub count: u64,
-    pub changed: u64,
+    pub misplaced: u64,
 }
 
 #[repr(C)]
@@ -87,13 +87,13 @@ pub extern "C" fn topjeska_plan(
             refusal: number as u64,
             place: place as u64,
             count: 0,
-            changed: 0,
+            misplaced: 0,
         },
-        Planned::Made { count, changed } => PlanAnswer {
+        Planned::Made { count, misplaced } => PlanAnswer {
             refusal: 0,
             place: 0,
             count: count as u64,
-            changed: changed as u64,
+            misplaced: misplaced as u64,
         },
     }
 }

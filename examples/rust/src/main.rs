@@ -36,7 +36,7 @@ fn show(name: &str, now: &[u16], goal: &[u16]) -> Result<(), ReplayError> {
     check(now, goal)?;
     let made = plan(Method::Gn1, now, goal)?;
     println!("{name} lifts{}", listed(&made.lifts, "->"));
-    println!("{name} changed {}", made.changed);
+    println!("{name} misplaced {}", made.misplaced);
     println!("{name} deadlock{}", listed(&deadlock(now, goal)?, " "));
     match replay(now, goal, &made.lifts)? {
         Verdict::Arrives => println!("{name} arrives"),

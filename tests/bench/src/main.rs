@@ -75,7 +75,7 @@ impl Lent {
         match operation {
             Plan(method) => {
                 let a = plain::plan(method, initial, goal, &mut self.space);
-                [a.refusal, a.place, a.count, a.changed]
+                [a.refusal, a.place, a.count, a.misplaced]
             }
             Deadlock => {
                 let a = plain::deadlock(initial, goal, &mut self.space);
@@ -101,7 +101,7 @@ impl Lent {
                 Plan(method) => {
                     let a =
                         ffi::topjeska_plan(method, now, now_len, goal, goal_len, space, space_len);
-                    [a.refusal, a.place, a.count, a.changed]
+                    [a.refusal, a.place, a.count, a.misplaced]
                 }
                 Deadlock => {
                     let a = ffi::topjeska_deadlock(now, now_len, goal, goal_len, space, space_len);

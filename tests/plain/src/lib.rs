@@ -22,14 +22,14 @@ pub struct CheckAnswer {
     pub place: u64,
 }
 
-/// A plan's count of moves, and the count of blocks whose entries differ.
+/// A plan's count of moves, and the count of blocks that are misplaced at the start.
 #[repr(C)]
 #[derive(Clone, Copy, Debug, Default, PartialEq, Eq)]
 pub struct PlanAnswer {
     pub refusal: u64,
     pub place: u64,
     pub count: u64,
-    pub changed: u64,
+    pub misplaced: u64,
 }
 
 /// The count of blocks on the loop; 0 where there is no deadlock.
@@ -67,9 +67,9 @@ pub fn check(initial: &[u16], goal: &[u16]) -> CheckAnswer {
 /// Writes the plan of a method to the front of `out`.
 pub fn plan(method: u16, initial: &[u16], goal: &[u16], out: &mut [u16]) -> PlanAnswer {
     match planner::plan(method, initial, goal, out) {
-        Ok((count, changed)) => PlanAnswer {
+        Ok((count, misplaced)) => PlanAnswer {
             count,
-            changed,
+            misplaced,
             ..PlanAnswer::default()
         },
         Err(Refusal { number, place }) => PlanAnswer {

@@ -119,7 +119,7 @@ impl Plan<'_> {
     }
 }
 
-/// The count of moves of a method's plan, and the count of blocks whose entries differ.
+/// The count of moves of a method's plan, and the count of blocks that are misplaced at the start.
 pub fn plan(
     method: u16,
     initial: &[u16],
@@ -136,15 +136,15 @@ pub fn plan(
     if out.len() < 4 * problem.n {
         return Err(refused(10));
     }
-    let changed = initial.iter().zip(goal).filter(|(a, b)| a != b).count();
+    let yard = Yard::of(problem);
+    let misplaced = yard.placed.iter().filter(|placed| !**placed).count();
     let mut plan = Plan { out, count: 0 };
-    solve(problem, &mut plan);
-    Ok((plan.count as u64, changed as u64))
+    solve(yard, &mut plan);
+    Ok((plan.count as u64, misplaced as u64))
 }
 
 /// Method 1: misplaced blocks to the table, then constructive moves.
-fn us(problem: Problem, plan: &mut Plan) {
-    let mut yard = Yard::of(problem);
+fn us(mut yard: Yard, plan: &mut Plan) {
     let mut loose = BlockSet::new();
     for block in yard.blocks() {
         if yard.is_free(block) && !yard.is_on_table(block) {
@@ -169,8 +169,7 @@ fn us(problem: Problem, plan: &mut Plan) {
 }
 
 /// Method 2: constructive moves; at a stall the lowest misplaced clear block off the table goes to it.
-fn gn1(problem: Problem, plan: &mut Plan) {
-    let mut yard = Yard::of(problem);
+fn gn1(mut yard: Yard, plan: &mut Plan) {
     let mut loose = BlockSet::new();
     for block in yard.blocks() {
         if yard.is_free(block) && !yard.is_on_table(block) {
@@ -196,8 +195,7 @@ fn gn1(problem: Problem, plan: &mut Plan) {
 }
 
 /// Method 3: constructive moves; at a stall the lowest block on the loop goes to the table.
-fn gn2(problem: Problem, plan: &mut Plan) {
-    let mut yard = Yard::of(problem);
+fn gn2(mut yard: Yard, plan: &mut Plan) {
     let mut towers = Towers::of(&yard);
     let mut free = BlockSet::new();
     for block in yard.blocks() {

@@ -6,28 +6,25 @@ use Rattle.problem.proofs.misplaced.Statement.{statement}
 use Rattle.problem.proofs.misplaced.Tie as tie
 
 abbrev Inv-loop : tie.InvT-loop
-Inv-loop stands n c₀ i₀ c i = Misplacing stands n c i
+Inv-loop rows n c₀ i₀ c i = Misplacing rows n c i
 
 abbrev μ-loop : tie.MeasureT-loop
-μ-loop stands n c₀ i₀ c i = n - i
+μ-loop rows n c₀ i₀ c i = n - i
 
 loop-holds : tie.Need-loop-holds Inv-loop μ-loop
 loop-holds c = search (needs, misplacing-begin)
 
-add-c : tie.Need-add-c Inv-loop μ-loop
-add-c c = search needs
+add-is-misplaced : tie.Need-add-is-misplaced Inv-loop μ-loop
+add-is-misplaced c = search needs
 
-mul-c : tie.Need-mul-c Inv-loop μ-loop
-mul-c c = search needs
-
-shared-slice-read-c : tie.Need-shared-slice-read-c Inv-loop μ-loop
-shared-slice-read-c c = search needs
+is-misplaced-requires : tie.Need-is-misplaced-requires Inv-loop μ-loop
+is-misplaced-requires c κs = search needs
 
 cast-c : tie.Need-cast-c Inv-loop μ-loop
 cast-c c = search needs
 
-add-c-2 : tie.Need-add-c-2 Inv-loop μ-loop
-add-c-2 c = search (needs, misplacing-fits)
+add-c : tie.Need-add-c Inv-loop μ-loop
+add-c c = search (needs, misplacing-fits)
 
 add-i : tie.Need-add-i Inv-loop μ-loop
 add-i c = search needs
@@ -39,7 +36,7 @@ loop-again : tie.Need-loop-again Inv-loop μ-loop
 loop-again c = search (needs, misplacing-next)
 
 returns : tie.Need-returns Inv-loop μ-loop
-returns c = misplacing-end (c .before .loop .inv) (search needs)
+returns c = search (needs, misplacing-end)
 
 pub misplaced-spec : {M : Type 1} → statement M
 misplaced-spec =
@@ -48,11 +45,10 @@ misplaced-spec =
     Inv-loop
     μ-loop
     loop-holds
-    add-c
-    mul-c
-    shared-slice-read-c
+    add-is-misplaced
+    is-misplaced-requires
     cast-c
-    add-c-2
+    add-c
     add-i
     loop-less
     loop-again

@@ -1,6 +1,6 @@
 -- `write_answer` meets its contract: one law for each case. Assumes nothing.
 use borrow.Author.Needs.{needs}
-use Rattle.responder.proofs.ReplyLaws.{no-room, plan-room, refused-written, count-fits, changed-fits, moves-fit, plan-written}
+use Rattle.responder.proofs.ReplyLaws.{no-room, plan-room, refused-written, count-fits, misplaced-fits, moves-fit, plan-written}
 use Rattle.responder.proofs.write_answer.Statement.{statement}
 use Rattle.responder.proofs.write_answer.Tie as tie
 
@@ -17,7 +17,7 @@ cast-put-record : tie.Need-cast-put-record
 cast-put-record c = search (needs, count-fits)
 
 cast-put-record-2 : tie.Need-cast-put-record-2
-cast-put-record-2 c = search (needs, changed-fits)
+cast-put-record-2 c = search (needs, misplaced-fits)
 
 put-record-requires-2 : tie.Need-put-record-requires-2
 put-record-requires-2 c κs = search (needs, plan-room)
