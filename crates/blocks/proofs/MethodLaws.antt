@@ -280,7 +280,7 @@ us-written s g p = (p₁ ++ p₂, same, written)
           once = λ n. absurd (n refl);
         }
 
-gn1-other : Gn1 ≢ Us
+pub gn1-other : Gn1 ≢ Us
 gn1-other e = let z : _≡_ {A = ℕ} 0 1 = cc in absurd (omega arith)
 
 gn2-other : Gn2 ≢ Us

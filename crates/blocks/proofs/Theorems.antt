@@ -1,6 +1,6 @@
 -- The theorems of specs/Demands, proved: each is a law of one of the files beside this one. Assumes nothing.
 use mathlib.Core.Path.{_≡_, sym, ap, subst}
-use mathlib.Core.Logic.{_↔_, _≢_}
+use mathlib.Core.Logic.{_↔_}
 use mathlib.Core.Bool.{Bool, true}
 use Prim.Native.Nat.{ℕ, _*_, _≤_}
 use native.Mathlib.Omega.{arith}
@@ -10,7 +10,7 @@ use Rattle.blocks.specs.State.{State, support, down}
 use Rattle.blocks.specs.Position.{Proper, Problem, InPosition, Misplaced}
 use Rattle.blocks.specs.Move.{Plan, Solves}
 use Rattle.blocks.specs.Tests.{misplacedᵇ, misplacedCount}
-use Rattle.blocks.specs.Method.{Method, Us, Gn1, plan, outcome}
+use Rattle.blocks.specs.Method.{Method, Gn1, plan, outcome}
 use Rattle.blocks.specs.Demands.{NoDeadlock, Fewest, HeadCount, Promise, Economy, Theorems}
 use Rattle.lists.proofs.ReflectLaws.{Reflects, from-true, to-true}
 use Rattle.lists.proofs.SearchLaws.{count-counts}
@@ -23,7 +23,7 @@ use Rattle.blocks.proofs.MeasureLaws.{measure-le, misplaced-le}
 use Rattle.blocks.proofs.StallLaws as stalls
 use Rattle.blocks.proofs.LoopLaws as loops
 use Rattle.blocks.proofs.LoopToldLaws as told
-use Rattle.blocks.proofs.MethodLaws.{Written, method-written, method-only, method-told}
+use Rattle.blocks.proofs.MethodLaws.{Written, gn1-other, method-written, method-only, method-told}
 use Rattle.blocks.proofs.DeadlockTestLaws as deadlocks
 use Rattle.blocks.proofs.DeadlockToldLaws as words
 use Rattle.blocks.proofs.FlatLaws as flats
@@ -67,8 +67,7 @@ plan-fits m s g q p e =
     let short : length (w .0) ≡ length p = ap length same in
     omega (arith, short, w .2 .bound, measure-le s g (q .initial), misplaced-le s g)
 
--- ---- the misplaced blocks
-
+-- what is counted are the misplaced blocks
 misplaced-counts : (s g : State) → Proper s → Counts (Misplaced s g) (length s) (misplacedCount s g)
 unfolding misplacedCount
 misplaced-counts s g p = count-counts (Misplaced s g) (misplacedᵇ s g) (positions.misplaced-test s g p) (length s)
@@ -88,11 +87,8 @@ head-count s g q =
     least : (r : Plan) → Solves s g r → misplacedCount s g ≤ length r
     least r h = bounds.lower-bound r q h
 
-    other : Gn1 ≢ Us
-    other e = let z : _≡_ {A = ℕ} 0 1 = cc in omega arith
-
     once : NoDeadlock s g → (r : Plan) × Solves s g r × (length r ≡ misplacedCount s g)
-    once free = let w = method-written Gn1 s g q in (w .0, w .2 .solves, w .2 .once other free)
+    once free = let w = method-written Gn1 s g q in (w .0, w .2 .solves, w .2 .once gn1-other free)
 
 pub theorems : Theorems
 theorems =

@@ -1,4 +1,5 @@
--- The plan of a method as the code makes it: what the runs may rely on, and the two ways out: US by two runs, the other methods by one. Assumes nothing.
+-- The plan of a method as the code makes it: what the runs may rely on, the two ways out, US by two runs and the other methods by one, and what is answered.
+-- Assumes nothing.
 use Prim.Native.Nat.{ℕ, _*_, _≤_}
 use mathlib.Core.Path.{_≡_, refl, sym, ap, ap₂, _∙_}
 use mathlib.Core.Bool.{Bool, true, false, not, true≢false}
@@ -8,8 +9,8 @@ use borrow.Author.Tests.{not-true, not-false}
 use lib.ListN.{length, length-append}
 use lib.Seq.{sets}
 use Rattle.lists.specs.Lists.{overwrite}
-use Rattle.lists.proofs.WriteLaws.{sets-front}
 use Rattle.lists.specs.Search.{count}
+use Rattle.lists.proofs.WriteLaws.{sets-front}
 use Rattle.rows.specs.Rows.{Yard}
 use Rattle.blocks.specs.State.{State}
 use Rattle.blocks.specs.Position.{Problem}

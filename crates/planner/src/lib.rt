@@ -66,7 +66,8 @@ pub fn plan(method: u16, initial: &[u16], goal: &[u16], out: &mut [u16]) -> Plan
     solve(by, initial, goal, &mut yard, out)
 }
 
-// The plan of a method for a problem that has been checked, whose rows are as the check left them, and room for the plan.
+// The plan of a method for a problem that has been checked, whose rows are as the check left them, and room for the plan. What is misplaced is counted first:
+// the runs write on the row that says it.
 pub fn solve(
     method: Method,
     initial: &[u16],
