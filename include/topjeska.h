@@ -5,11 +5,17 @@
  * says, and may be NULL where the length is 0. A generator is lent as a pointer that is not NULL.
  * What is written overlaps nothing else that is lent.
  *
+ * A sheet may have lengths: a list of n numbers, entry i - 1 the length of slab i in cm. Then a
+ * slab must not rest on a shorter one, and a lift onto a shorter one is not legal; slabs of equal
+ * lengths may rest on each other, and the ground takes any.
+ *
  * In every answer `refusal` is 0 where the call was answered, else one of TOPJESKA_REFUSAL_...;
  * `place` is then its place, the counts are 0, and what is lent holds what it held. A refused replay
  * gives no verdict: TOPJESKA_NO_VERDICT stands in its place. */
 #ifndef TOPJESKA_H
 #define TOPJESKA_H
+
+/* For C99 or later, which has the inline functions, and C++11 or later. */
 
 #include <stddef.h>
 #include <stdint.h>
@@ -20,9 +26,9 @@ extern "C" {
 
 /* ---- version, of this header and of the library beside it */
 
-#define TOPJESKA_VERSION "0.3.0"
+#define TOPJESKA_VERSION "0.4.0"
 #define TOPJESKA_VERSION_MAJOR 0
-#define TOPJESKA_VERSION_MINOR 3
+#define TOPJESKA_VERSION_MINOR 4
 #define TOPJESKA_VERSION_PATCH 0
 
 /* ---- limits and memory */
@@ -50,6 +56,11 @@ extern "C" {
  *     training         6 KiB */
 #define TOPJESKA_STACK_BYTES 163840u
 
+/* ---- options of a sheet: bits, of which those that have no name here are not looked at */
+
+/* The sheet has lengths. Without this bit the lengths are not looked at. */
+#define TOPJESKA_LENGTHS 1u
+
 /* ---- methods of planning */
 
 /* US: puts down the misplaced clear slabs off the ground, then makes constructive lifts. */
@@ -64,9 +75,10 @@ extern "C" {
 
 /* ---- refusals: the number of the first question that got a "no"
  *
- * In brackets who asks it, where not all that take a sheet do; the place is 0 where none is named.
- * Training asks 14, 15 and 10, in that order. 12 is the planning program's alone, and 13 is never
- * answered (theorem `never-13`): no function here gives them. */
+ * In brackets who asks it, or of what sheets, where not all that take a sheet do; the place is 0
+ * where none is named. 16, 17 and 18 are asked after 9, in that order. Training asks 14, 15 and 10,
+ * in that order. 12 is the planning program's alone, and 13 is never answered (theorem `never-13`):
+ * no function here gives them. */
 
 /* Is the method 1, 2 or 3? (planning) */
 #define TOPJESKA_REFUSAL_METHOD 1u
@@ -104,7 +116,7 @@ extern "C" {
 #define TOPJESKA_REFUSAL_ODD 11u
 
 /* Are all bytes of the record there, with its own mark, and nothing after the last record? (program)
- * Place: the records before it, or 2 * n + 1 for a tail. */
+ * Place: the records before it, or 2 * n + 1 for a tail, 3 * n + 1 with lengths. */
 #define TOPJESKA_REFUSAL_RECORD 12u
 
 /* Was there a slab to put down when no constructive lift existed? (planning) */
@@ -115,6 +127,17 @@ extern "C" {
 
 /* Is the number below the count of arrangements, or the seed not 0? (training) */
 #define TOPJESKA_REFUSAL_TRAINING_NUMBER 15u
+
+/* Are there as many lengths as slabs? (with lengths) */
+#define TOPJESKA_REFUSAL_LENGTHS_COUNT 16u
+
+/* Is each slab at most as long as the slab it rests on now? (with lengths) Place: the lowest slab
+ * that overhangs. */
+#define TOPJESKA_REFUSAL_NOW_OVERHANG 17u
+
+/* Is each slab at most as long as the slab it rests on in the goal? (with lengths) Place: the
+ * lowest slab that overhangs. */
+#define TOPJESKA_REFUSAL_GOAL_OVERHANG 18u
 
 /* ---- verdicts of replay */
 
@@ -137,12 +160,15 @@ extern "C" {
  * differs. */
 #define TOPJESKA_VERDICT_ELSEWHERE 5u
 
+/* It is too long for its destination. Place: the lift, counted from 1. */
+#define TOPJESKA_VERDICT_TOO_LONG 6u
+
 /* The verdict of a refused replay: a number that is none. */
 #define TOPJESKA_NO_VERDICT 65535u
 
 /* ---- answers */
 
-/* Whether two lists are a sheet. */
+/* Whether lists are a sheet. */
 typedef struct {
     uint64_t refusal, place;
 } topjeska_check_answer;
@@ -178,7 +204,7 @@ typedef struct {
     uint64_t seed;
 } topjeska_generator;
 
-/* ---- functions */
+/* ---- functions on sheets without options */
 
 /* Puts questions 2 to 9 to two lists. */
 topjeska_check_answer topjeska_check(const uint16_t *now, size_t now_len,
@@ -202,6 +228,88 @@ topjeska_deadlock_answer topjeska_deadlock(const uint16_t *now, size_t now_len,
 topjeska_replay_answer topjeska_replay(const uint16_t *now, size_t now_len,
                                        const uint16_t *goal, size_t goal_len,
                                        const uint16_t *lifts, size_t lifts_len);
+
+/* ---- functions on sheets with options, such as TOPJESKA_LENGTHS */
+
+/* Puts questions 2 to 9 to a sheet, and with lengths 16, 17 and 18. */
+topjeska_check_answer topjeska_check_with(uint16_t options, const uint16_t *now, size_t now_len,
+                                          const uint16_t *goal, size_t goal_len,
+                                          const uint16_t *lengths, size_t lengths_len);
+
+/* As topjeska_plan. A sheet that is accepted with lengths has the same list with them and without.
+ * With them all that is promised of a list compares it with lists that are legal with lengths, and
+ * it is legal with lengths itself. */
+topjeska_plan_answer topjeska_plan_with(uint16_t options, uint16_t method, const uint16_t *now,
+                                        size_t now_len, const uint16_t *goal, size_t goal_len,
+                                        const uint16_t *lengths, size_t lengths_len,
+                                        uint16_t *space, size_t space_len);
+
+/* As topjeska_deadlock. A sheet that is accepted with lengths has the same pairs with them and
+ * without. */
+topjeska_deadlock_answer topjeska_deadlock_with(uint16_t options, const uint16_t *now,
+                                                size_t now_len, const uint16_t *goal,
+                                                size_t goal_len, const uint16_t *lengths,
+                                                size_t lengths_len, uint16_t *space,
+                                                size_t space_len);
+
+/* As topjeska_replay. With lengths every lift is tested for TOPJESKA_VERDICT_TOO_LONG, after
+ * TOPJESKA_VERDICT_TAKEN. */
+topjeska_replay_answer topjeska_replay_with(uint16_t options, const uint16_t *now, size_t now_len,
+                                            const uint16_t *goal, size_t goal_len,
+                                            const uint16_t *lengths, size_t lengths_len,
+                                            const uint16_t *lifts, size_t lifts_len);
+
+/* ---- the same, with the parts of a sheet by their names */
+
+/* A sheet, in C
+ *
+ *     (topjeska_sheet){.options = TOPJESKA_LENGTHS, .now = now, .now_len = n,
+ *                      .goal = goal, .goal_len = n, .lengths = lengths, .lengths_len = n}
+ *
+ * and in C++ `topjeska_sheet sheet = {}; sheet.options = TOPJESKA_LENGTHS; sheet.now = now;` and so
+ * on. What is not named is 0, so that a sheet without lengths leaves out options and lengths.
+ * Beware: lengths without the option are not looked at, and the sheet is answered as one that has
+ * none. Fields that come later go behind these, and are not looked at without their option. */
+typedef struct {
+    uint16_t options;
+    const uint16_t *now;
+    size_t now_len;
+    const uint16_t *goal;
+    size_t goal_len;
+    const uint16_t *lengths;
+    size_t lengths_len;
+} topjeska_sheet;
+
+/* topjeska_check_with for a sheet. */
+static inline topjeska_check_answer topjeska_sheet_check(topjeska_sheet sheet) {
+    return topjeska_check_with(sheet.options, sheet.now, sheet.now_len, sheet.goal, sheet.goal_len,
+                               sheet.lengths, sheet.lengths_len);
+}
+
+/* topjeska_plan_with for a sheet. */
+static inline topjeska_plan_answer topjeska_sheet_plan(topjeska_sheet sheet, uint16_t method,
+                                                       uint16_t *space, size_t space_len) {
+    return topjeska_plan_with(sheet.options, method, sheet.now, sheet.now_len, sheet.goal,
+                              sheet.goal_len, sheet.lengths, sheet.lengths_len, space, space_len);
+}
+
+/* topjeska_deadlock_with for a sheet. */
+static inline topjeska_deadlock_answer topjeska_sheet_deadlock(topjeska_sheet sheet,
+                                                               uint16_t *space, size_t space_len) {
+    return topjeska_deadlock_with(sheet.options, sheet.now, sheet.now_len, sheet.goal,
+                                  sheet.goal_len, sheet.lengths, sheet.lengths_len, space,
+                                  space_len);
+}
+
+/* topjeska_replay_with for a sheet. */
+static inline topjeska_replay_answer topjeska_sheet_replay(topjeska_sheet sheet,
+                                                           const uint16_t *lifts,
+                                                           size_t lifts_len) {
+    return topjeska_replay_with(sheet.options, sheet.now, sheet.now_len, sheet.goal, sheet.goal_len,
+                                sheet.lengths, sheet.lengths_len, lifts, lifts_len);
+}
+
+/* ---- training */
 
 /* Writes the arrangement of n slabs that has the number r to the front of the list; what lies behind
  * its n numbers keeps what it held. The numbers below the count of arrangements (1 for no slab, 13

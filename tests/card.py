@@ -100,7 +100,8 @@ def contents(page: str) -> Iterator[Test]:
         for row, row_right in zip(table, right):
             yield f"{name}, {row_right[0]}", unlike(row, row_right)
     wanted = [f"{rules.MOST:,}", f"{rules.NO_VERDICT:,}", *(f"{n} ({name})" for n, name in rules.METHODS.items())]
-    yield "numbers in the text", unlike([words for words in wanted if words not in page], [])
+    wanted.append("16 to 18 are asked of sheets with lengths, after 9.")
+    yield "words of the text", unlike([words for words in wanted if words not in page], [])
     yield "paper", "" if "@page { size: A4" in page else "is not A4"
     fetched = read.names & {"script", "link", "img", "iframe", "object"} | read.attributes & {"src", "href", "style"}
     yield "self-contained", unlike(fetched, set()) or ("url(" in page or "@import" in page) * "the style fetches"

@@ -1,20 +1,24 @@
 """A case: an operation with what it is lent. It is made here, written as a line, and answered by the reading.
 
-As a line: `plan m=2 now=2,0 goal=0,1 space=8`.
+As a line: `plan m=2 now=2,0 goal=0,1 space=8`; with lengths `plan m=2 now=2,0 goal=0,1 lengths=300,250 space=8`,
+and where the options are others than the lengths' bit, `options=65534` before them.
 """
 
 from collections.abc import Iterable, Iterator, Sequence
 from typing import NamedTuple
 
 import reading
-from reading import METHODS, Pair, Yard
+from reading import LENGTHS, METHODS, Lengths, Pair, Yard
 
 # The operations that are lent space.
 SPACED = ("plan", "deadlock")
 
 
 class Case(NamedTuple):
-    """A call: the operation, the two lists, and what only some operations take."""
+    """A call: the operation, the two lists, and what only some operations take.
+
+    Without options it is a call of the function that takes none, and no lengths.
+    """
 
     operation: str
     now: Yard
@@ -22,6 +26,12 @@ class Case(NamedTuple):
     method: int = 0
     space: int = 0
     lifts: Sequence[int] = ()
+    options: int | None = None
+    lengths: Yard = ()
+
+    def looked_at(self) -> Lengths:
+        """The lengths, where the options say that there are some."""
+        return self.lengths if (self.options or 0) & LENGTHS else None
 
 
 class Answer(NamedTuple):
@@ -83,21 +93,26 @@ def operations(now: Yard, goal: Yard, lifts: Sequence[int] = ()) -> Iterator[Cas
     yield replaying(now, goal, lifts)
 
 
+def measured(cases: Iterable[Case], lengths: Yard, options: int = LENGTHS) -> Iterator[Case]:
+    """Cases with lengths."""
+    return (case._replace(options=options, lengths=lengths) for case in cases)
+
+
 # ---- the answer of the reading
 
 
 def read(case: Case) -> Answer:
     """What the reading answers and writes."""
-    now, goal, pairs = case.now, case.goal, []
+    now, goal, lengths, pairs = case.now, case.goal, case.looked_at(), []
     numbers: Sequence[int]
     if case.operation == "check":
-        numbers = reading.check(now, goal)
+        numbers = reading.check(now, goal, lengths)
     elif case.operation == "plan":
-        *numbers, pairs = reading.plan(case.method, now, goal, case.space)
+        *numbers, pairs = reading.plan(case.method, now, goal, case.space, lengths)
     elif case.operation == "deadlock":
-        *numbers, pairs = reading.deadlock(now, goal, case.space)
+        *numbers, pairs = reading.deadlock(now, goal, case.space, lengths)
     else:
-        numbers = reading.replay(now, goal, case.lifts)
+        numbers = reading.replay(now, goal, case.lifts, lengths)
     return Answer(tuple(numbers), pairs)
 
 
@@ -120,6 +135,8 @@ def line(case: Case) -> str:
     if case.operation == "plan":
         words.append(f"m={case.method}")
     words += [f"now={listed(case.now)}", f"goal={listed(case.goal)}"]
+    if case.options is not None:
+        words += [f"options={case.options}"] * (case.options != LENGTHS) + [f"lengths={listed(case.lengths)}"]
     if case.operation in SPACED:
         words.append(f"space={case.space}")
     if case.operation == "replay":
@@ -138,4 +155,6 @@ def case_of(text: str) -> Case:
         int(named.get("m", 0)),
         int(named.get("space", 0)),
         numbers_of(named.get("lifts", "-")),
+        int(named.get("options", LENGTHS)) if "lengths" in named else None,
+        numbers_of(named.get("lengths", "-")),
     )

@@ -1,8 +1,8 @@
 """Runs the commands of tools/ and holds what they write to document 01 and the reading.
 
 tools/records.py packs the document's example. tools/sheet: each sentence about a list, each lift's reason, rings,
-verdicts, training sheets, refusals, bad lines, JSON, where sheets come from, and how it ends. All run where there is no
-folder tests/.
+verdicts, sheets with lengths, training sheets, refusals, bad lines, JSON, where sheets come from, and how it ends. All
+run where there is no folder tests/.
 """
 
 import itertools
@@ -21,7 +21,7 @@ import reading
 import records
 import sheets
 from case import planning, read
-from reading import METHODS, MOST, TOP, Pair, Yard
+from reading import METHODS, MOST, TOP, VERDICTS, Lengths, Pair, Yard
 from records import EXAMPLE
 from said import arranged_object, check_object, deadlock_object, plan_object, replay_object, trained_objects
 from said import right_check, right_deadlock, right_plan, right_replay, ring_words, untrue
@@ -29,9 +29,13 @@ from tested import ROOT, Ended, Test, lacking, list_line, misended, sheet_line, 
 
 LIBRARY = ROOT / "target" / "staticlib"
 
+# A sheet, without lengths or with them.
+Sheet = tuple[Yard, Yard] | tuple[Yard, Yard, Lengths]
+
 # Stalled yards with more than one loop: a slab in its own way, one that waits on another loop, and two on one.
 SEVERAL = [sheet_of(line) for line in ("5 1 6 0 4 0 / 4 6 2 0 1 0", "0 4 5 0 0 0 0 9 0 11 0 / 8 5 4 0 0 0 0 11 0 9 0")]
 RANDOM_SHEETS = 300
+MEASURED_SHEETS = 60
 SEARCHED = 6
 TOP_64 = 2**64 - 1
 MANY_ZEROS = 5000 * "0"
@@ -50,10 +54,16 @@ def run(
 
 WORDS = "HD 2 2, NW 2, NW 0, GL 0, GL 1", "PL 2 2, LF 1 0, LF 2 1"
 
+# The marks of document 02, Job 3, with the fields of the same sheet.
+MEASURED = "HL 2 2, NW 2, NW 0, GL 0, GL 1, LN 300, LN 300"
+MEASURED_BYTES = bytes.fromhex("48 4C") + EXAMPLE[0][2:] + bytes.fromhex("4C 4E 01 2C") * 2
+
 # Lines that it does not read, and what the message must say.
 UNPACKABLE = [
-    ("pack", "HD 2 2, XX 1", ["'XX 1'", "HD, NW, GL, PL, LF, NO"]),
+    ("pack", "HD 2 2, XX 1", ["'XX 1'", "HD, HL, NW, GL, LN, PL, LF, NO"]),
     ("pack", "NW 1 2", ["'NW 1 2'", "the fields of NW are 1"]),
+    ("pack", "LN 1 2", ["'LN 1 2'", "the fields of LN are 1"]),
+    ("pack", "HL 1", ["'HL 1'", "the fields of HL are 2"]),
     ("pack", "LF 1", ["'LF 1'", "the fields of LF are 2"]),
     ("pack", f"NW {TOP + 1}", [f"'NW {TOP + 1}'", f"0 to {TOP}"]),
     ("unpack", "48 4", ["'48 4' is not hexadecimal"]),
@@ -62,7 +72,7 @@ UNPACKABLE = [
 
 def records_tool() -> Iterator[Test]:
     """The document's example both ways, the bytes that begin no record, and lines that cannot be read."""
-    for words, data in zip(WORDS, EXAMPLE):
+    for words, data in (*zip(WORDS, EXAMPLE), (MEASURED, MEASURED_BYTES)):
         for tail in (b"", b"N", b"NW\0", b"XY\0\0"):
             hexadecimal = (data + tail).hex().upper()
             text = f"{words} | {tail.hex().upper()}" if tail else words
@@ -90,7 +100,33 @@ REFUSED = [
     (2, "0 0 0 / 0 1 1", (8, 3), ["at most one slab in the goal?", "slab 3 rests on slab 1 in the goal", "slab 2"]),
     (2, "0 0 / 2 1", (9, 1), ["Does every slab come down to the ground in the goal?", "1, 2, 1"]),
     (4, "2 0 / 0 1", (1, 0), ["Is the method 1, 2 or 3?", "the method is 4"]),
+    (2, "2 0 / 0 1 / 300", (16, 0), ["Are there as many lengths as slabs? No: 1 length for 2 slabs."]),
+    (2, "2 0 / 0 1 /", (16, 0), ["No: 0 lengths for 2 slabs."]),
+    (2, "/ / 300 0", (16, 0), ["No: 2 lengths for 0 slabs."]),
+    (
+        2,
+        "2 0 0 / 0 0 1 / 300 250 250",
+        (17, 1),
+        ["as long as the slab it rests on now?", "slab 1,", "is 300 cm long and rests on slab 2 now, which is 250 cm"],
+    ),
+    (
+        2,
+        "0 0 0 / 0 1 2 / 250 300 300",
+        (18, 2),
+        ["it rests on in the goal?", "slab 2,", "is 300 cm long and rests on slab 1 in the goal, which is 250 cm long"],
+    ),
+    (2, "2 1 5 / 0 0 0 / 300", (4, 3), ["Is every now entry at most n?"]),
+    (4, "2 0 / 0 1 / 300 250", (1, 0), ["the method is 4"]),
     (1, sheet_line([0] * (MOST + 1), [0] * (MOST + 1)), (2, 0), ["at most 4,000 entries?", "4,001 entries, 1 too"]),
+]
+
+# Sheets that are refused, and whose records are made all the same: by 4, by 17, and thrice by 16.
+UNASKED: list[Sheet] = [
+    ([2, 1, 5], [0, 0, 0]),
+    ([2, 0], [0, 0], [300, 250]),
+    ([2, 0], [0, 1], [300]),
+    ([2, 0], [0, 1], []),
+    ([], [], [300, 0]),
 ]
 
 # Lines that are no sheets, and what the message must say.
@@ -100,7 +136,11 @@ UNREADABLE = [
     (f"2 0 / 0 {TOP + 1}", ["column 9", "goal entry 2", f"'{TOP + 1}'"]),
     ("S2: 2 x / 0 1", ["column 7", "now entry 2", "'x'"]),
     ("2 0 0 1", ["column 8", "no '/'"]),
-    ("2 0 / 0 1 / 0", ["column 11", "second '/'"]),
+    ("2 0 / 0 1 / 0 / 0", ["column 15", "third '/'"]),
+    ("2 0 / 0 1 / 300 x", ["column 17", "length 2", "'x'"]),
+    (f"2 0 / 0 1 / {TOP + 1} 0", ["column 13", "length 1", f"'{TOP + 1}'"]),
+    ("2 0 / 0 / 300 300", ["column 9", "slab 2 has no goal entry"]),
+    ("2 0 / 0 1 0 / 300 300", ["column 11", "slab 3 has no now entry"]),
     ("2 0 / 0", ["column 8", "slab 2 has no goal entry"]),
     ("2 0 / 0 1 0", ["column 11", "slab 3 has no now entry"]),
     ("no-such-file", ["no '/'", "no-such-file is no file"]),
@@ -114,7 +154,7 @@ def unwrapped(text: str) -> str:
     return "\n".join(" ".join(line.split()) for line in re.sub(r"\n  +(?!\d+ (?:shall|above))", " ", text).splitlines())
 
 
-def unlike_each(ended: Ended, some: Sequence[tuple[Yard, Yard]], right: Sequence[str]) -> str:
+def unlike_each(ended: Ended, some: Sequence[Sheet], right: Sequence[str]) -> str:
     """The first sheet on which the tool's words are not the right ones."""
     answers = ended.stdout.removesuffix("\n").split("\n\n")
     if len(answers) != len(right):
@@ -125,7 +165,7 @@ def unlike_each(ended: Ended, some: Sequence[tuple[Yard, Yard]], right: Sequence
     return ""
 
 
-def misplanned(method: int, some: Sequence[tuple[Yard, Yard]]) -> str:
+def misplanned(method: int, some: Sequence[Sheet]) -> str:
     """Where the tool's words on plans differ from the reading."""
     ended = run(["sheet", "plan", str(method), "-"], given="\n".join(sheet_line(*sheet) for sheet in some))
     if ended.returncode != 0:
@@ -133,11 +173,12 @@ def misplanned(method: int, some: Sequence[tuple[Yard, Yard]]) -> str:
     return unlike_each(ended, some, [right_plan(method, *sheet) for sheet in some])
 
 
-def unfound(method: int, some: Sequence[tuple[Yard, Yard]]) -> str:
+def unfound(method: int, some: Sequence[Sheet]) -> str:
     """Where what the tool claims of the shortest list is not what the search finds."""
     ended = run(["sheet", "plan", str(method), "--json", "-"], given="\n".join(sheet_line(*sheet) for sheet in some))
     answers = [json.loads(line) for line in ended.stdout.splitlines()]
-    faults = (untrue(*sheet, told["count"], told["words"]) for sheet, told in zip(some, answers, strict=True))
+    each = zip(some, answers, strict=True)
+    faults = (untrue(*sheet[:2], told["count"], told["words"], *sheet[2:]) for sheet, told in each)
     return next(filter(None, faults), "")
 
 
@@ -148,24 +189,41 @@ def sheet_records() -> Iterator[Test]:
     yield "tools/sheet, records of the whole example", unlike(ended.stdout, f"{EXAMPLE[0].hex(' ').upper()}\n")
     ended = run(["sheet", "records", *example, "--bytes"])
     yield "tools/sheet, bytes of the whole example", unlike(ended.stdout.encode(), EXAMPLE[0])
-    some = [*sheets.STATED, *sheets.TRIALS]
+    ended = run(["sheet", "records", "2", "2 0 / 0 1 / 300 300", "--bytes"])
+    yield "tools/sheet, bytes of the example with lengths", unlike(ended.stdout.encode("latin-1"), MEASURED_BYTES)
+    some = [*sheets.STATED, *sheets.TRIALS, *measured_sheets()[:9]]
     ended = run(["sheet", "records", "3", *(sheet_line(*sheet) for sheet in some)])
     right = [records.asked(3, *sheet).hex(" ").upper() for sheet in some]
     yield "tools/sheet, records of several sheets", unlike(ended.stdout.split("\n\n"), [*right[:-1], f"{right[-1]}\n"])
     ended = run(["sheet", "records", *example, "2 0 / 0 1", "--bytes"])
     yield "tools/sheet, bytes of several sheets", unlike(ended.stdout.encode(), EXAMPLE[0] * 2)
+    for sheet in UNASKED:
+        ended, right = run(["sheet", "records", "2", sheet_line(*sheet)]), records.asked(2, *sheet).hex(" ").upper()
+        yield f"tools/sheet, records of {sheet_line(*sheet)}", misended(ended, 0) or unlike(ended.stdout, f"{right}\n")
+    parts = ["`records` asks nothing", "a sheet that is refused", "another count of lengths", "with 12"]
+    yield "tools/sheet --help, on refused sheets", misended(run(["sheet", "--help"]), 0, parts)
     over = sheet_line([0] * (TOP + 1), [0] * (TOP + 1))
     ended = run(["sheet", "records", "2", "-"], given=over)
     yield "tools/sheet, records of too many slabs", misended(ended, 2, [f"can name {TOP} at most"])
 
 
-def some_sheets() -> list[tuple[Yard, Yard]]:
-    """Every accepted sheet of at most three slabs, random ones of five and six, and some larger."""
+def measured_sheets() -> list[tuple[Yard, Yard, Lengths]]:
+    """Random sheets with lengths of up to nine slabs; no slabs with lengths too."""
+    rng = random.Random(sheets.SEED)
+    found: list[tuple[Yard, Yard, Lengths]] = [([], [], [])]
+    for number in range(1, MEASURED_SHEETS):
+        lengths = rng.choices((0, 200, 250, 300, TOP), k=number % 10)
+        found.append((sheets.fitting(rng, lengths), sheets.fitting(rng, lengths), lengths))
+    return found
+
+
+def some_sheets() -> list[Sheet]:
+    """Every accepted sheet of at most three slabs, random ones of five and six, with lengths, and some larger."""
     rng = random.Random(sheets.SEED)
     found = [*sheets.small_sheets()]
     found += [sheets.random_sheet(rng, 5 + number % 2, number % 3) for number in range(RANDOM_SHEETS)]
     larger = [*(sheets.random_sheet(rng, 12, number % 3) for number in range(12)), *sheets.TRIALS, *SEVERAL]
-    return [*found, *larger, *(sheets.ring(n)[:2] for n in (8, 10, 40))]
+    return [*found, *measured_sheets(), *larger, *(sheets.ring(n)[:2] for n in (8, 10, 40))]
 
 
 def sheet_words(page: dict[str, str]) -> Iterator[Test]:
@@ -183,26 +241,32 @@ def sheet_words(page: dict[str, str]) -> Iterator[Test]:
         yield f"tools/sheet {command}", unlike_each(ended, some, [right(*sheet) for sheet in some])
 
 
-def some_lists() -> Iterator[tuple[Yard, Yard, list[Pair]]]:
-    """Lists to replay: a method's, one cut short, one with a pair altered, one with a detour, and none."""
+def some_lists() -> Iterator[tuple[Yard, Yard, list[Pair], Lengths]]:
+    """Lists to replay: a method's, one cut short, one with a pair altered, one with a detour, and none.
+
+    Of sheets with lengths also some lifts that do not heed them.
+    """
     rng = random.Random(sheets.SEED)
-    for number in range(RANDOM_SHEETS):
-        now, goal = sheets.random_sheet(rng, 5, number % 3)
+    drawn = [(*sheets.random_sheet(rng, 5, number % 3), None) for number in range(RANDOM_SHEETS)]
+    for number, (now, goal, lengths) in enumerate([*drawn, *measured_sheets()]):
         pairs = read(planning(METHODS[number % 3], now, goal)).pairs
-        yield now, goal, pairs
+        yield now, goal, pairs, lengths
         if pairs:
             at = rng.randrange(len(pairs))
-            yield now, goal, pairs[:at]
-            yield now, goal, [*pairs[:at], (rng.randint(0, 6), rng.randint(0, 6)), *pairs[at + 1 :]]
-            yield now, goal, [*pairs[:at], (pairs[at][0], 0), *pairs[at:]]
+            yield now, goal, pairs[:at], lengths
+            yield now, goal, [*pairs[:at], (rng.randint(0, 6), rng.randint(0, 6)), *pairs[at + 1 :]], lengths
+            yield now, goal, [*pairs[:at], (pairs[at][0], 0), *pairs[at:]], lengths
+        if lengths:
+            walk = sheets.Walk(rng, now)
+            yield now, goal, [(slab, place) for slab, place, _ in walk.lifts(4, walk.clear_pair)], lengths
 
 
 def sheet_replays() -> Iterator[Test]:
     """The words on lists, read from JSON, and what they claim of the shortest list; and each as an object."""
     some = list(some_lists())
     given = "\n".join(
-        json.dumps({"sheet": sheet_line(now, goal), "lifts": [{"slab": s, "destination": d} for s, d in pairs]})
-        for now, goal, pairs in some
+        json.dumps({"sheet": sheet_line(now, goal, long), "lifts": [{"slab": s, "destination": d} for s, d in pairs]})
+        for now, goal, pairs, long in some
     )
     ended = run(["sheet", "replay", "-"], given=given)
     right = [right_replay(*one) for one in some]
@@ -211,8 +275,11 @@ def sheet_replays() -> Iterator[Test]:
     ended = run(["sheet", "replay", "-", "--json"], given=given)
     yield "tools/sheet replay --json", unlike_objects(ended, [replay_object(*one) for one in some])
     claims = [(one, told["length"]) for one, told in zip(some, objects(ended)) if told["length"]]
-    faults = (untrue(now, goal, len(pairs), length) for (now, goal, pairs), length in claims)
+    small = [claim for claim in claims if len(claim[0][0]) <= SEARCHED]
+    faults = (untrue(now, goal, len(pairs), length, lengths) for (now, goal, pairs, lengths), length in small)
     yield "tools/sheet replay, what it claims", next(filter(None, faults), "")
+    missing = set(VERDICTS) - {told["verdict"] for told in objects(ended)}
+    yield "tools/sheet replay, verdicts", f"no list has the verdicts {missing}" if missing else ""
 
 
 def objects(ended: Ended) -> list[dict[str, object]]:
@@ -430,6 +497,11 @@ def sheet_pipes() -> Iterator[Test]:
     yield "tools/sheet, a plain line behind what it printed", wrong
     ended = run(["sheet", "check", "-"], given=f"{printed(named)}0 / 0\n")
     yield "tools/sheet, a plain line within what it printed", misended(ended, 2, ["a sheet stands among what"])
+    measured = *sheets.STATED[3], [250, 300, 250, 300]
+    for form in ([], ["--json"]):
+        ended = run(["sheet", "replay", "-"], given=printed(sheet_line(*measured), *form))
+        right = right_replay(now, goal, read(planning(3, now, goal)).pairs, measured[2])
+        yield f"tools/sheet replay, what plan prints with lengths {form}", unlike_each(ended, [measured], [right])
     two = printed(named, "0 / 0")
     ended = run(["sheet", "check", "-"], given=two.replace("\n", "\r\n"))
     yield "tools/sheet, what it printed, with CRLF", unlike(ended.stdout.count("accepted:"), 2)

@@ -2,7 +2,8 @@
 
 Up to 8 slabs the expected outcome is the reading's (reading.py), and the promises of demand 3 are
 held to its breadth-first search. Above, it is that of the plain Rust program (plain/), which is held
-to the reading on every small case too. A failing case is printed as a line, also where the library
+to the reading on every small case too. With lengths the same; equal lengths, and lengths that the
+options do not name, must also be answered as none. A failing case is printed as a line, also where the library
 crashes or does not return; run lines again with `python3 tests/differential.py --cases FILE` (`-`:
 standard input).
 """
@@ -29,10 +30,10 @@ from case import (
     Case,
     by_all,
     case_of,
-    checking,
     flat,
     line,
     listed,
+    measured,
     numbers_of,
     operations,
     paired,
@@ -42,7 +43,7 @@ from case import (
     testing,
 )
 from library import FIELDS, Fault, Library, Outcome, shared_object
-from reading import METHODS, MOST, NO_VERDICT, TOP, Yard, deadlock_space, plan_space
+from reading import LENGTHS, METHODS, MOST, NO_VERDICT, TOP, Yard, check, deadlock_space, plan_space
 from sheets import Sheet, Walk
 
 ROOT = Path(__file__).resolve().parent.parent
@@ -51,6 +52,8 @@ FAILED = TARGET / "differential" / "failed.txt"
 SMALL = 8
 SMALL_SHEETS = 4_000
 LARGE_SHEETS = 250
+MEASURED_SHEETS = 1_500
+LARGE_MEASURED = 50
 LONG = 70_000
 SHOWN = 10
 WIDEST = 4096
@@ -227,17 +230,143 @@ def randoms(trial: Trial, rng: Random, number: int, sizes: tuple[int, int]) -> I
         yield testing(now, goal, deadlock_space(n) + rng.randint(1, 9))
 
 
+def keeps(trial: Trial, sheet: promises.Searched, cases: Iterable[Case]) -> None:
+    """Holds the library's answers to what is promised of a sheet."""
+    for case in cases:
+        made = trial.compare(case)
+        if isinstance(made, str):
+            continue
+        pairs = paired(made.space[: 2 * made.numbers[2]]) if case.space else []
+        unkept = promises.unkept(sheet, case, made.numbers, pairs)
+        trial.count(not unkept, case, lambda: "; ".join(unkept))
+
+
 def hold_promises(trial: Trial, rng: Random, number: int, n: int) -> None:
     """Holds the library's lists and its deadlock test to the breadth-first search and the definitions."""
     for _ in range(number):
         now, goal = near_or_far(rng, n)
-        sheet = promises.searched(now, goal)
-        for case in by_all(now, goal):
-            made = trial.compare(case)
-            if isinstance(made, str):
-                continue
-            unkept = promises.unkept(sheet, case, made.numbers, paired(made.space[: 2 * made.numbers[2]]))
-            trial.count(not unkept, case, lambda: "; ".join(unkept))
+        keeps(trial, promises.searched(now, goal), by_all(now, goal))
+
+
+# ---- lengths
+
+
+def some_lengths(rng: Random, n: int) -> list[int]:
+    """Random lengths: of few values or many, or the least and the most there are."""
+    values = rng.choice(((250, 300), (0, TOP), (1, 2, 3), range(200, 1200), range(TOP + 1)))
+    return rng.choices(values, k=n)
+
+
+def fitted(rng: Random, n: int) -> tuple[Yard, Yard, list[int]]:
+    """A random accepted sheet with lengths: it is made for the lengths, or these are cut for it where it is small."""
+    lengths = some_lengths(rng, n)
+    if n > SMALL or rng.random() < 0.7:
+        return sheets.fitting(rng, lengths), sheets.fitting(rng, lengths), lengths
+    now, goal = near_or_far(rng, n)
+    return now, goal, sheets.lowered(lengths, now, goal)
+
+
+def spoilt(rng: Random, lengths: Yard) -> list[int]:
+    """Lengths of which one is another, or one is missing or too many."""
+    bad = list(lengths)
+    if bad and rng.random() < 0.7:
+        bad[rng.randrange(len(bad))] = rng.choice((0, TOP, rng.choice(bad), rng.randint(0, TOP)))
+    elif rng.random() < 0.5:
+        bad.append(rng.randint(0, TOP))
+    else:
+        bad = bad[:-1]
+    return bad
+
+
+def every_measured() -> Iterator[Case]:
+    """Every two arrangements of up to three slabs with every order of lengths, and with every list of one pair.
+
+    And with too few and too many lengths; each list also in the place of a bad one.
+    """
+    for n in range(4):
+        pairs = list(itertools.product(range(n + 2), repeat=2))
+        for now, goal in itertools.product(sheets.arrangements(n), repeat=2):
+            for lengths in sheets.ranks(n):
+                yield from measured(operations(now, goal), lengths)
+                if check(now, goal, lengths) == (0, 0):
+                    yield from measured((replaying(now, goal, one) for one in pairs), lengths)
+            for count in {0, n - 1, n + 1} - {-1, n}:
+                yield from measured(operations(now, goal), [1] * count)
+    for n in range(3):
+        for now, goal in itertools.product(lists(n), repeat=2):
+            for lengths in ([1] * n, [1] * (n + 1), [*range(n)]):
+                yield from measured(operations(now, goal, [1]), lengths)
+
+
+def measured_randoms(trial: Trial, rng: Random, number: int, sizes: tuple[int, int]) -> Iterator[Case]:
+    """Random sheets with lengths by every operation: right and altered lists, spoilt copies, and any options."""
+    for _ in range(number):
+        now, goal, lengths = fitted(rng, rng.randint(*sizes))
+        n, bad = len(now), spoilt(rng, lengths)
+        right = plan_of(trial, now, goal, rng.choice(METHODS))
+        replays = [replaying(now, goal, lifts) for lifts in altered_lists(rng, now, right)]
+        walk = Walk(rng, now)
+        hasty = flat((slab, place) for slab, place, _ in walk.lifts(rng.randint(1, 9), walk.clear_pair))
+        yield from measured([*operations(now, goal), *replays, replaying(now, walk.yard, hasty)], lengths)
+        yield from measured(operations(now, goal, right), bad)
+        yield from measured(operations(damaged(rng, now), damaged(rng, goal), [1]), bad)
+        for some in (lengths, bad):
+            method = rng.choice((0, *METHODS, 4))
+            tight = planning(method, now, goal, plan_space(n) - 1), testing(now, goal, deadlock_space(n) - 1)
+            yield from measured([*tight, replaying(now, goal, [1])] if n else [], some)
+            yield from measured(operations(now, goal, hasty), some, rng.randint(0, TOP))
+
+
+def as_without(trial: Trial, rng: Random, number: int, sizes: tuple[int, int]) -> None:
+    """Equal lengths, and any lengths that the options do not name, are answered as none are."""
+    for _ in range(number):
+        now, goal = near_or_far(rng, rng.randint(*sizes))
+        right = plan_of(trial, now, goal, rng.choice(METHODS))
+        cases = [*operations(now, goal), *(replaying(now, goal, lifts) for lifts in altered_lists(rng, now, right))]
+        cases += operations(damaged(rng, now), damaged(rng, goal), right)
+        for case in cases:
+            without, any_of = trial.compare(case), some_lengths(rng, rng.randint(0, len(now) + 1))
+            equal = measured([case], [rng.randint(0, TOP)] * len(case.now))
+            unnamed = measured([case], any_of, rng.randint(0, TOP) & ~LENGTHS)
+            for other in (*equal, *unnamed):
+                got = trial.compare(other)
+                trial.count(got == without, other, lambda: f"{got} where without lengths it is {without}")
+
+
+def hold_measured_promises(trial: Trial, rng: Random, number: int, n: int) -> None:
+    """Holds lists, deadlock tests and verdicts to the search and the definitions, with lengths of a few orders."""
+    orders = rng.sample(sheets.ranks(n), 10)
+    for _ in range(number):
+        lengths = rng.choice(orders)
+        now, goal = sheets.fitting(rng, lengths), sheets.fitting(rng, lengths)
+        right = plan_of(trial, now, goal, rng.choice(METHODS))
+        replays = (replaying(now, goal, lifts) for lifts in altered_lists(rng, now, right) if len(lifts) % 2 == 0)
+        keeps(trial, promises.searched(now, goal, lengths), measured([*by_all(now, goal), *replays], lengths))
+
+
+def measured_large(trial: Trial, rng: Random) -> Iterator[Case]:
+    """Random sheets with lengths of 100 slabs to a full yard, and the hard families with equal lengths."""
+    yield from measured_randoms(trial, rng, LARGE_MEASURED, (100, MOST))
+    yield from measured_randoms(trial, rng, 2, (MOST - 1, MOST))
+    for now, goal in sheets.families(MOST):
+        yield from measured(operations(now, goal, plan_of(trial, now, goal, 1)), [300] * len(now))
+
+
+def measured_hostile() -> Iterator[Case]:
+    """Wrong counts of lengths, the first and last places of both overhangs in a full yard, and all kinds of options."""
+    n = MOST
+    ground, tower = [0] * n, sheets.tower(n)
+    counts = [[300] * count for count in (0, 1, n - 1, n + 1, TOP, TOP + 1, LONG)]
+    first, last = [0, *[TOP] * (n - 1)], [*[0] * (n - 1), TOP]
+    falling = [*range(n, 0, -1)]
+    for now, goal in ((ground, tower), (tower, ground), (tower, tower), (ground, ground)):
+        for lengths in (*counts, first, last, falling, falling[::-1], [0] * n, [TOP] * n):
+            yield from measured(operations(now, goal, [n, 0]), lengths)
+    for lengths in ((), (0,), (TOP, TOP), [0] * LONG):
+        for options in (0, 1, 2, 3, 254, 255, 256, 257, 2**15, 2**15 + 1, TOP - 1, TOP):
+            yield from measured(operations((), ()), lengths, options)
+            yield from measured(operations((0, 1), (2, 0), (2, 0, 1, 2)), lengths, options)
+            yield from measured(operations((0,), ()), lengths, options)
 
 
 def large(trial: Trial, rng: Random) -> Iterator[Case]:
@@ -317,12 +446,12 @@ def hold(trial: Trial, case: Case, stated: Answer) -> None:
 
 
 def stated_check(case: Case, stated: Answer) -> Answer | None:
-    """What an answer states of `check`: every operation puts questions 2 to 9, and only 1 comes before them."""
+    """What an answer states of `check`: every operation puts its questions, and only 1 comes before them."""
     fields = dict(zip(FIELDS[case.operation], stated.numbers))
     number = fields["refusal"]
     if case.operation == "check" or number == 1:
         return None
-    return Answer((number, fields["place"]) if 2 <= number <= 9 else (0, 0), [])
+    return Answer((number, fields["place"]) if number in (*range(2, 10), 16, 17, 18) else (0, 0), [])
 
 
 def given(trial: Trial, lines: Iterable[str]) -> None:
@@ -348,7 +477,7 @@ def given(trial: Trial, lines: Iterable[str]) -> None:
             trial.count(fewest <= count <= 2 * fewest, case, lambda: f"{count} lifts, where {fewest} are the fewest")
         checked = stated_check(case, stated)
         if checked:
-            hold(trial, checking(case.now, case.goal), checked)
+            hold(trial, case._replace(operation="check", space=0), checked)
 
 
 def plain_library() -> Path:
@@ -368,6 +497,14 @@ def tests(trial: Trial, seed: int) -> None:
         ("promises, 5 slabs", lambda rng: hold_promises(trial, rng, 1000, 5)),
         ("promises, 6 slabs", lambda rng: hold_promises(trial, rng, 200, 6)),
         ("promises, 7 slabs", lambda rng: hold_promises(trial, rng, 5, 7)),
+        ("lengths, all up to 3 slabs", lambda rng: trial.run(every_measured())),
+        ("lengths, 0 to 8 slabs", lambda rng: trial.run(measured_randoms(trial, rng, MEASURED_SHEETS, (0, SMALL)))),
+        ("lengths as none", lambda rng: as_without(trial, rng, 300, (0, SMALL))),
+        ("lengths as none, larger", lambda rng: as_without(trial, rng, 10, (100, MOST))),
+        ("lengths, promises, 4 slabs", lambda rng: hold_measured_promises(trial, rng, 400, 4)),
+        ("lengths, promises, 5 slabs", lambda rng: hold_measured_promises(trial, rng, 300, 5)),
+        ("lengths, hostile", lambda rng: trial.run(measured_hostile())),
+        (f"lengths, 100 to {MOST:,} slabs", lambda rng: trial.run(measured_large(trial, rng))),
         ("hostile", lambda rng: trial.run(hostile(rng))),
         ("long lists", lambda rng: trial.run(long_lists(rng))),
         (f"100 to {MOST:,} slabs", lambda rng: trial.run(large(trial, rng))),

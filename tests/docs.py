@@ -1,7 +1,7 @@
 """Holds the pages of docs/ to what they speak of, and runs the tests of the tools.
 
 crates/: each statement of specs/ has a proof in proofs/ of its crate. docs/WHY.md: each theorem or law stands in the
-lines that the page names, each sheet has the lists and counts that the page states, the table of the five piles has its
+lines that the page names, each sheet has the lists, counts and verdicts that the page states, the five piles have their
 lifts and reasons (all by reading.py), each picture is what tools/draw makes of its sheet; where another page says what
 a sheet reads and takes, it says the same. docs/CLASSROOM.md: what is to be changed stands there once, its sheet has the
 numbers that the page states, and the sheets for a course are those of their seed. docs/DEMANDS.md: each file,
@@ -186,6 +186,39 @@ def rows() -> dict[str, Row]:
     return {row[0]: Row(*row) for row in table(text_of(WHY), "The sheets of this page")}
 
 
+class Measured(NamedTuple):
+    """A row of the page's table of sheets with lengths, as it is written."""
+
+    name: str
+    line: str
+    lifts: str
+    illegal: str
+    verdict: str
+
+    def typed(self) -> str:
+        """The sheet as it is typed."""
+        return self.line.strip("`")
+
+
+def measured_rows() -> dict[str, Measured]:
+    """The sheets with lengths by their names."""
+    return {row[0]: Measured(*row) for row in table(text_of(WHY), "With lengths")}
+
+
+def measured_sheets() -> Iterator[Test]:
+    """The sheets with lengths: the list with and without them, and the verdict of the list that is not legal."""
+    known = measured_rows()
+    yield "WHY.md, sheets with lengths", "" if known else "the page has none"
+    for name, row in known.items():
+        now, goal, lengths = ([int(entry) for entry in part.split()] for part in row.typed().split("/"))
+        room = reading.plan_space(len(now))
+        lists = [list_line(reading.plan(2, now, goal, room, given)[-1]) for given in (lengths, None)]
+        yield f"WHY.md, sheet {name}", unlike([row.lifts] * 2, lists)
+        lifts = [int(number) for pair in LIFT.findall(row.illegal) for number in pair]
+        number, verdict, place = reading.replay(now, goal, lifts, lengths)
+        yield f"WHY.md, list {row.illegal}", unlike([row.verdict, 0], [f"{verdict}, {place}", number])
+
+
 def fewest(now: Yard, goal: Yard) -> int:
     """The fewest lifts, by search; for more than a few slabs from both ends, because every lift can be taken back."""
     if len(now) <= SEARCHED:
@@ -254,7 +287,8 @@ DRAWN = {"-lifts-3": ["--method", "3"], "-lifts": ["--method", "2"], "-ring": ["
 def picture(name: str) -> str:
     """What tools/draw makes for a picture's name: the sheet of that name, with what the name ends with."""
     ending = next(ending for ending in DRAWN if name.endswith(ending))
-    row = {known.lower(): row for known, row in rows().items()}[name.removesuffix(ending)]
+    every = [*rows().values(), *measured_rows().values()]
+    row = {row.name.lower(): row for row in every}[name.removesuffix(ending)]
     return commands.run(["draw", *DRAWN[ending], f"{row.name}: {row.typed()}"]).stdout
 
 
@@ -460,7 +494,7 @@ def main() -> int:
             if made:
                 (PICTURES / f"{name}.svg").write_text(made, encoding="utf-8")
     of_tools = [commands.tests({name: row.typed() for name, row in rows().items()}), of_draw.tests(), page_data.tests()]
-    of_why = [references(), page_sheets(), head_counts(), waiting(), five_piles(), pictures()]
+    of_why = [references(), page_sheets(), measured_sheets(), head_counts(), waiting(), five_piles(), pictures()]
     return counted(itertools.chain(proved(), *of_why, classroom(), course(), demands(), *of_tools))
 
 

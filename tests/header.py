@@ -5,12 +5,13 @@ both, and the filler of a refused replay are read from include/topjeska.h, crate
 with the generator of crates/generator/src/lib.rt, and rust/src/ffi.rs, and held to each other; so is what
 tools/topjeska.py and the tests in Python take for granted. The constants and the comments of header and
 wrapper are held to each other, their numbers and words to tools/rules.py, and the version to
-rust/Cargo.toml. Then tests/c/fields.c names every field, and every constant that a call takes or answers,
-where an exchange shows, and tests/c/stack.c holds the stack of each operation to the header's bound and
-table. Last the test is tried itself: each exchange of two fields, two parameters or two constants in one
-of the files, a field before the seed, another word in each comment, each exchange of two fields, two
-lists or two numbers between fields.c and the library, each constant of fields.c with another value, and
-smaller bounds for stack.c must be noticed. The last line is 'N passed, M failed'.
+rust/Cargo.toml. The header's struct of a sheet has what the functions with options take, by these names. Then
+tests/c/fields.c names every field, and every constant that a call takes or answers, where an exchange shows, and
+tests/c/stack.c holds the stack of each operation to the header's bound and table. Last the test is tried itself: each
+exchange of two fields, two parameters or two constants in one of the files, a field before the seed, another word in
+each comment, each exchange of two fields, two lists or two numbers between fields.c and the library, each of two lists
+of a sheet or of their lengths on the way to it, its options lost there, each constant of fields.c with another value,
+and smaller bounds for stack.c must be noticed. The last line is 'N passed, M failed'.
 """
 
 import argparse
@@ -27,7 +28,7 @@ from compiled import INCLUDE, LIBRARY, ROOT, TARGET, Count, tried
 
 sys.path.append(str(ROOT / "tools"))
 import rules  # noqa: E402
-from topjeska import FIELDS, OF_TRAINING, ON_SHEETS, Generator  # noqa: E402
+from topjeska import FIELDS, LENGTHS, OF_TRAINING, ON_SHEETS, WITH_OPTIONS, Generator, answer_of  # noqa: E402
 
 HEADER = INCLUDE / "topjeska.h"
 EXPORTS = ROOT / "crates" / "topjeska" / "src" / "lib.rt"
@@ -169,12 +170,18 @@ def interface(path: Path, text: str = "") -> Interface:
 
 # What each operation takes: numbers and a generator first, then lists, each with its length.
 SHEET = [("now", "*const u16"), ("goal", "*const u16")]
-SPACE, OUT = ("space", "*mut u16"), ("out", "*mut u16")
+MEASURED = [*SHEET, ("lengths", "*const u16")]
+SPACE, OUT, LIFTS = ("space", "*mut u16"), ("out", "*mut u16"), ("lifts", "*const u16")
+METHOD, OPTIONS = ("method", "u16"), ("options", "u16")
 TAKEN: dict[str, tuple[list[Named], list[Named]]] = {
     "check": ([], SHEET),
-    "plan": ([("method", "u16")], [*SHEET, SPACE]),
+    "plan": ([METHOD], [*SHEET, SPACE]),
     "deadlock": ([], [*SHEET, SPACE]),
-    "replay": ([], [*SHEET, ("lifts", "*const u16")]),
+    "replay": ([], [*SHEET, LIFTS]),
+    "check_with": ([OPTIONS], MEASURED),
+    "plan_with": ([OPTIONS, METHOD], [*MEASURED, SPACE]),
+    "deadlock_with": ([OPTIONS], [*MEASURED, SPACE]),
+    "replay_with": ([OPTIONS], [*MEASURED, LIFTS]),
     "training": ([("n", "usize"), ("r", "u64")], [OUT]),
     "training_draw": ([("generator", "*mut Generator"), ("n", "usize")], [OUT]),
 }
@@ -189,9 +196,24 @@ def expected(operation: str) -> list[Named]:
 STRUCTS = {**FIELDS, "generator": [name for name, _ in Generator._fields_]}
 ASSUMED = Interface(
     {struct: [(name, "u64") for name in names] for struct, names in STRUCTS.items()},
-    {operation: (operation.removesuffix("_draw"), expected(operation)) for operation in ON_SHEETS | OF_TRAINING},
+    {operation: (answer_of(operation), expected(operation)) for operation in ON_SHEETS | WITH_OPTIONS | OF_TRAINING},
     {"NO_VERDICT": Constant(reading.NO_VERDICT, "")},
 )
+
+
+# The struct that the header alone has, and the inline functions that take a sheet by it.
+NAMING = "sheet"
+INLINE = re.compile(
+    r"^static inline topjeska_\w+_answer topjeska_(?P<name>\w+)\([^)]*\) \{(?P<body>[^}]*)\}", re.MULTILINE
+)
+
+
+def misnaming(header: Interface) -> list[str]:
+    """Where the header's struct of a sheet has other fields than a function takes of one; its functions that lack."""
+    fields = header.fields.get(NAMING, [])
+    wrong = [] if fields == header.functions["check_with"][1] else [f"the fields of {NAMING}: {fields}"]
+    found = {match["name"] for match in INLINE.finditer(HEADER.read_text())}
+    return wrong + sorted(found ^ {f"{NAMING}_{operation}" for operation in ON_SHEETS})
 
 
 def filler(of: Interface) -> int | None:
@@ -202,7 +224,7 @@ def filler(of: Interface) -> int | None:
 def differing(one: Interface, other: Interface) -> list[str]:
     """What two files declare differently of fields, parameters and the filler; empty where they agree."""
     wrong = [] if filler(one) == filler(other) else ["the filler of a refused replay"]
-    for name in sorted({*one.fields, *other.fields, *one.functions, *other.functions}):
+    for name in sorted({*one.fields, *other.fields, *one.functions, *other.functions} - {NAMING}):
         if one.fields.get(name) != other.fields.get(name):
             wrong.append(f"the fields of {name}")
         if one.functions.get(name) != other.functions.get(name):
@@ -234,6 +256,7 @@ NAMED = {
     "MOST_SLABS": rules.MOST,
     "MOST_TRAINED": rules.MOST_TRAINED,
     "NO_VERDICT": rules.NO_VERDICT,
+    "LENGTHS": LENGTHS,
     "PLAN_SPACE": reading.plan_space(1),
     "DEADLOCK_SPACE": reading.deadlock_space(1),
     **{f"METHOD_{name}": number for number, name in rules.METHODS.items()},
@@ -294,7 +317,10 @@ TOLD = {
         "entry i - 1 says what slab i rests on, 0 for the ground",
         "may be null where the length is 0",
         "what is lent holds what it held",
+        "a lift onto a shorter one is not legal; slabs of equal lengths may rest on each other",
+        "the ground takes any",
     ],
+    "constant lengths": ["without this bit the lengths are not looked at"],
     "constant plan_space": ["the numbers of lent space"],
     "constant deadlock_space": ["the numbers of lent space"],
     "struct plan": [
@@ -304,6 +330,13 @@ TOLD = {
     ],
     "function plan": ["as pairs: slab, destination", "what lies behind the pairs keeps what it held"],
     "function deadlock": ["as pairs: the slab, and the slab through which the next one is in its way"],
+    "function check_with": ["with lengths 16, 17 and 18"],
+    "function plan_with": [
+        "a sheet that is accepted with lengths has the same list with them and without",
+        "compares it with lists that are legal with lengths",
+    ],
+    "function deadlock_with": ["a sheet that is accepted with lengths has the same pairs with them and without"],
+    "function replay_with": ["every lift is tested for verdict_too_long, after verdict_taken"],
     "struct generator": ["the same sheets on every machine", "one that is not 0 never becomes 0"],
     "function training": ["what lies behind its n numbers keeps what it held", *COUNTS],
     "function training_draw": ["a refusal keeps the seed and the list", "two draws in a row"],
@@ -319,8 +352,12 @@ def comments(language: Language, text: str) -> dict[str, re.Match[str]]:
 
 
 def shared_words(path: Path, text: str) -> dict[str, str]:
-    """The comments of the header's or the wrapper's text in the words of both; the table of stacks is the header's."""
-    words = {of: one_line(match["words"]) for of, match in comments(LANGUAGES[path], text).items()}
+    """The comments of the header's or the wrapper's text in the words of both.
+
+    The table of stacks and the struct of a sheet are the header's.
+    """
+    found = comments(LANGUAGES[path], text).items()
+    words = {of: one_line(match["words"]) for of, match in found if of != f"struct {NAMING}"}
     plain = {of: said.replace("TOPJESKA_", "").replace("`", "").lower() for of, said in words.items()}
     return {of: said.partition(" measured with a thread")[0] for of, said in plain.items()}
 
@@ -393,6 +430,8 @@ def exchanges(path: Path, pattern: re.Pattern[str]) -> Iterator[tuple[str, str]]
     """A file with two names of a declaration exchanged, each time with what was done."""
     text = path.read_text()
     for found in pattern.finditer(text):
+        if found["name"] == NAMING:
+            continue
         names = LANGUAGES[path].names.findall(found["body"])
         for one, other in itertools.combinations([name for name in names if not name.endswith("_len")], 2):
             done = exchanged(text, *found.span("body"), one, other)
@@ -417,12 +456,15 @@ def reworded(path: Path) -> Iterator[tuple[str, str]]:
     """A file with another word at the beginning of one comment, each time with what was done."""
     text = path.read_text()
     for of, found in comments(LANGUAGES[path], text).items():
+        if of == f"struct {NAMING}":
+            continue
         start, end = found.span("words")
         yield f"{path.name}: {of}", text[:start] + re.sub(r"\w+", "Otherwise", text[start:end], count=1) + text[end:]
 
 
-# A number that no constant has; the constants that no call of fields.c takes or answers.
-OTHER = "77"
+# A number that no constant has, and without the bit of an option; the constants that no call of fields.c takes or
+# answers.
+OTHER = "78"
 UNCALLED = {"REFUSAL_RECORD", "REFUSAL_STALL", "STACK_BYTES", "VERSION_MAJOR", "VERSION_MINOR", "VERSION_PATCH"}
 
 
@@ -461,6 +503,17 @@ def rerouted() -> Iterator[tuple[str, str]]:
             yield f"the library, {operation}: {parameters[one[0]][0]} and {parameters[other[0]][0]}", done
 
 
+def misled() -> Iterator[tuple[str, str]]:
+    """The header with two lists of a sheet, or their lengths alone, exchanged in an inline function, or no options."""
+    text, lists = HEADER.read_text(), [name for name, _ in MEASURED]
+    for found in INLINE.finditer(text):
+        start, end = found.span("body")
+        for names in (lists, [f"{name}_len" for name in lists]):
+            for one, other in itertools.combinations(names, 2):
+                yield f"{found['name']}: {one} and {other}", exchanged(text, start, end, one, other)
+        yield f"{found['name']}: no options", text[:start] + found["body"].replace("sheet.options", "0") + text[end:]
+
+
 def trials(library: Path) -> Iterator[tuple[str, bool]]:
     """Each exchange, and whether it is noticed: in a file by reading it, before the library by running a program."""
     for path, language in LANGUAGES.items():
@@ -478,7 +531,7 @@ def trials(library: Path) -> Iterator[tuple[str, bool]]:
         yield name, bool(misworded(HEADER.read_text(), text))
     folder = TARGET / "exchanged"
     folder.mkdir(parents=True, exist_ok=True)
-    for name, text in itertools.chain(exchanges(HEADER, C.struct), shifted(), rerouted(), altered()):
+    for name, text in itertools.chain(exchanges(HEADER, C.struct), shifted(), rerouted(), misled(), altered()):
         (folder / HEADER.name).write_text(text)
         count = tried(folder / "fields", ["fields.c"], library, include=folder)
         # It runs to its end and counts what differs: a program that is not built would show nothing.
@@ -506,7 +559,8 @@ def main() -> int:
         passed, failed = passed + (not wrong), failed + len(wrong)
     stack = stacked(library, TARGET)
     tabled = ("the header's table and stack.c", mistabled(stack.said))
-    for name, wrong in (*constants_wrong(), *comments_wrong(), tabled):
+    named = ("the header's struct of a sheet and its functions", misnaming(header))
+    for name, wrong in (named, *constants_wrong(), *comments_wrong(), tabled):
         for what in wrong:
             print(f"failed: {name}: {what}")
         passed, failed = passed + (not wrong), failed + len(wrong)

@@ -12,7 +12,7 @@ from typing import NamedTuple
 from case import SPACED, Answer, Case, flat
 
 sys.path.append(str(Path(__file__).resolve().parent.parent / "tools"))
-from topjeska import FIELDS, OF_TRAINING, functions, shared_object  # noqa: E402
+from topjeska import FIELDS, OF_TRAINING, ON_SHEETS, WITH_OPTIONS, functions, shared_object  # noqa: E402
 
 
 class Outcome(NamedTuple):
@@ -69,19 +69,20 @@ class Library:
 
     def __init__(self, path: Path, prefix: str) -> None:
         """Loads the shared object; every name begins with the prefix."""
-        self.functions = functions(path, prefix)
+        self.functions = functions(path, prefix, ON_SHEETS | WITH_OPTIONS)
 
     def run(self, case: Case) -> Outcome:
         """Makes the call, with a guard on both sides of the space and behind each list."""
-        operation, space = case.operation, Space(case.space)
-        lists = [array("H", numbers) + GUARD for numbers in (case.now, case.goal, case.lifts)]
+        operation, space, bare = case.operation, Space(case.space), case.options is None
+        read = [case.now, case.goal, *([] if bare else [case.lengths]), *([case.lifts] * (operation == "replay"))]
+        lists = [array("H", numbers) + GUARD for numbers in read]
         before = [bytes(numbers) for numbers in lists]
-        words = [case.method] if operation == "plan" else []
-        for numbers in lists if operation == "replay" else lists[:2]:
+        words = [*([] if bare else [case.options]), *([case.method] * (operation == "plan"))]
+        for numbers in lists:
             words += [numbers.buffer_info()[0], len(numbers) - len(GUARD)]
         if operation in SPACED:
             words += space.lent()
-        answer = self.functions[operation](*words)
+        answer = self.functions[operation if bare else f"{operation}_with"](*words)
         if before != [bytes(numbers) for numbers in lists]:
             raise Fault("it altered a list that it may only read")
         return Outcome(tuple(getattr(answer, field) for field in FIELDS[operation]), space.held())

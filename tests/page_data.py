@@ -20,7 +20,7 @@ from typing import Any, NamedTuple
 
 import reading
 import sheets
-from reading import METHODS, Pair, Yard
+from reading import METHODS, Lengths, Pair, Yard
 from tested import ROOT, Test, counted, sheet_line, sheet_of, unlike
 
 TOOL = ROOT / "tools" / "page"
@@ -41,7 +41,8 @@ UNREADABLE = [
     ("2 x / 0 1", ["column 3", "now entry 2", "'x'", "\n    ^"]),
     ("2 0 / 0 65536", ["column 9", "goal entry 2", "'65536'"]),
     ("2 0 0 1", ["column 8", "no '/'"]),
-    ("a name: 2 0 / 0 1 / 0", ["column 19", "second '/'"]),
+    ("a name: 2 0 / 0 1 / 300 300 / 0", ["column 29", "third '/'"]),
+    ("2 0 / 0 1 / 300 x", ["column 17", "length 2", "'x'"]),
     ("2 0 / 0", ["column 8", "slab 2 has no goal entry"]),
     ("2 0 / 0 1 0", ["column 11", "slab 3 has no now entry"]),
 ]
@@ -135,12 +136,17 @@ def thirty() -> dict[str, sheets.Sheet]:
     return {"thirty": high, "rings": rings}
 
 
-def some_sheets() -> list[sheets.Sheet]:
-    """The sheets whose pages are read: stated ones, those of the classroom, and random ones."""
+def some_sheets() -> list[tuple[Yard, Yard, Lengths]]:
+    """The sheets whose pages are read: stated ones, those of the classroom, random ones, and some with lengths."""
     rng = random.Random(sheets.SEED)
     drawn = [sheets.random_sheet(rng, 2 + number % 11, number % 3) for number in range(RANDOM_SHEETS)]
     known = [sheets.ring(27)[:2], sheets.exchanged(12)[:2]]
-    return [*sheets.STATED, *sheets.TRIALS, sheet_of(FIVE), *thirty().values(), *known, *drawn]
+    bare = [*sheets.STATED, *sheets.TRIALS, sheet_of(FIVE), *thirty().values(), *known, *drawn]
+    found: list[tuple[Yard, Yard, Lengths]] = [(now, goal, None) for now, goal in bare]
+    for number in range(RANDOM_SHEETS // 4):
+        lengths = rng.choices((0, 200, 250, 300, reading.TOP), k=number)
+        found.append((sheets.fitting(rng, lengths), sheets.fitting(rng, lengths), lengths))
+    return found
 
 
 # ---- the written page
@@ -178,9 +184,10 @@ def mislisted(told: Data, method: int, now: Yard, goal: Yard) -> str:
     return unlike(len(told["lifts"]), len(pairs))
 
 
-def misshown(told: Data, now: Yard, goal: Yard) -> str:
+def misshown(told: Data, now: Yard, goal: Yard, lengths: Lengths) -> str:
     """Where a sheet in a page differs from the reading."""
-    if wrong := unlike((told["now"], told["goal"], told["refusal"]), (list(now), list(goal), 0)):
+    found = [told[key] for key in ("now", "goal", "lengths", "line", "refusal")]
+    if wrong := unlike(found, [list(now), list(goal), lengths, sheet_line(now, goal, lengths), 0]):
         return wrong
     ring = reading.deadlocked(now, goal)
     if told["start"].startswith("deadlock") != ring or told["words"].startswith("deadlock") != ring:
@@ -223,9 +230,10 @@ def alone() -> Iterator[Test]:
 def statuses() -> Iterator[Test]:
     """How the tool ends: a page, a page with a refused sheet, a line that cannot be read, output that is not taken."""
     yield "tools/page, status of a page", unlike(run(S4, FIVE).returncode, 0)
-    ended = run(S4, "bad: 2 1 5 / 0 0 0", FIVE)
+    ended = run(S4, "bad: 2 1 5 / 0 0 0", FIVE, "2 0 / 0 1 / 300", "2 0 / 0 1 / 250 300")
     found = [(one["refusal"], one["place"]) for one in data_of(ended.stdout)["sheets"]]
-    yield "tools/page, a refused sheet", unlike((ended.returncode, found), (1, [(0, 0), (4, 3), (0, 0)]))
+    right = [(0, 0), (4, 3), (0, 0), (16, 0), (18, 2)]
+    yield "tools/page, refused sheets", unlike((ended.returncode, found), (1, right))
     for line, parts in UNREADABLE:
         ended = run(line)
         missing = [part for part in parts if part not in ended.stderr]

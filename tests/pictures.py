@@ -2,8 +2,8 @@
 
 Each frame: what rests on what, who is misplaced, just lifted or on the loop, the arrows of a stalled yard with both
 their ends and what they pass, and the caption. The goal once, the heading, every sentence below, the legend. The ring
-and the loop. Lists that are not legal or do not arrive, what is refused or cannot be read, and where sheets and lists
-come from.
+and the loop. How wide slabs are by their lengths. Lists that are not legal or do not arrive, what is refused or cannot
+be read, and where sheets and lists come from.
 """
 
 import itertools
@@ -24,7 +24,7 @@ import reading
 import sheets
 from case import planning, read, testing
 from commands import run
-from reading import METHODS, MOST, Pair, Yard
+from reading import METHODS, MOST, Lengths, Pair, Yard
 from said import counted as number_of
 from said import from_lowest, numbered, replayed, right_cost, right_verdict, ring_words
 from tested import ROOT, Ended, Test, counted, lacking, list_line, misended, sheet_line, unlike
@@ -38,6 +38,9 @@ TWO_LOOPS = [0, 4, 5, 0, 0, 0, 0, 9, 0, 11, 0], [8, 5, 4, 0, 0, 0, 0, 11, 0, 9, 
 
 # So many lines of a long sheet are shown, so many sentences about slabs, and the labels of so many slabs that wait.
 SHEET_LINES, SENTENCES, LABELLED = 8, 60, 12
+
+# A digit is so wide; lengths are told apart that differ by such a part of what the longest and the shortest differ by.
+DIGIT, APART = 8, 1 / 20
 
 # What each sign of the legend means: the looks of slabs, the kinds of arrows, the arrow to another row, and labels.
 MEANINGS = {
@@ -173,11 +176,11 @@ def overlap(one: Box, other: Box) -> bool:
 
 def supports(places: dict[int, Box], grounds: Sequence[Box]) -> dict[int, int]:
     """What each slab rests on by where it lies; -1 for one that rests on nothing."""
-    at = {(place.left, place.top): slab for slab, place in places.items()}
+    at = {(place.left + place.right, place.top): slab for slab, place in places.items()}
     found = {}
     for slab, place in places.items():
         on = any(g.top == place.bottom and g.left <= place.left and place.right <= g.right for g in grounds)
-        found[slab] = 0 if on else at.get((place.left, place.bottom), -1)
+        found[slab] = 0 if on else at.get((place.left + place.right, place.bottom), -1)
     return found
 
 
@@ -368,13 +371,18 @@ def right_counts(now: Yard, goal: Yard, *before: str) -> str:
     return ", ".join([*before, f"{len(reading.misplaced(now, goal))} misplaced", floor])
 
 
-def right_legend(frames: Sequence[Right], short: bool) -> dict[str, str]:
-    """The signs that some frames need with what they mean; beside them whether an arrow goes to another row."""
+def right_legend(frames: Sequence[Right], short: bool, lengths: Lengths) -> dict[str, str]:
+    """The signs that some frames need with what they mean; beside them whether an arrow goes to another row.
+
+    Where lengths differ, the longest and the shortest.
+    """
     looks = [look - ({"misplaced"} if look & {"loop", "ring"} else set()) for f in frames for look in f.looks.values()]
     needed = set().union(*looks) | {f"arrow {kind}" for frame in frames for _, kind in frame.arrows.values()}
     needed |= {"arrow"} if short else set()
     needed |= {"names"} if any(frame.labels for frame in frames) else set()
-    return {sign: MEANINGS[sign] for sign in needed}
+    differ = lengths is not None and len(set(lengths)) > 1
+    long = {"long": f"the longest, {max(lengths)} cm; the shortest, {min(lengths)} cm"} if differ else {}
+    return {sign: MEANINGS[sign] for sign in needed} | long
 
 
 # ---- the two against each other
@@ -392,6 +400,20 @@ def unlike_frames(found: dict[str, Seen], right: dict[str, Right]) -> str:
     return ""
 
 
+def miswide(frame: Seen, lengths: Lengths) -> str:
+    """What is wrong with how wide slabs are: equally for equal lengths or none, a longer one wider; numbers fit."""
+    widths = {slab: place.right - place.left for slab, place in frame.places.items()}
+    long = dict(enumerate(lengths or [1] * len(widths), 1))
+    if widths.keys() != long.keys() or any(wide < DIGIT * len(str(slab)) for slab, wide in widths.items()):
+        return f"widths {widths} for lengths {lengths}"
+    told_apart = max(1, APART * (max(long.values(), default=0) - min(long.values(), default=0)))
+    for one, other in itertools.permutations(long, 2):
+        more, wider = long[other] - long[one], widths[other] - widths[one]
+        if (more == 0 and wider != 0) or (more > 0 and wider < 0) or (more >= told_apart and wider <= 0):
+            return f"slabs {one} and {other}: widths {widths} for lengths {lengths}"
+    return ""
+
+
 def mistitled(picture: Picture, line: str) -> str:
     """What is wrong with the sheet in the heading: it is whole, or as much of it as so many lines hold."""
     lines = picture.said("title")
@@ -402,15 +424,23 @@ def mistitled(picture: Picture, line: str) -> str:
     return "" if cut and len(lines) == SHEET_LINES else f"{len(lines)} lines of heading: {said} for {line}"
 
 
-def misshown(picture: Picture, right: dict[str, Right], title: str, counts: str, sentences: Sequence[str]) -> str:
+def misshown(
+    picture: Picture,
+    right: dict[str, Right],
+    title: str,
+    counts: str,
+    sentences: Sequence[str],
+    lengths: Lengths = None,
+) -> str:
     """What is wrong with a picture: its frames, its heading, all that is said below, the legend, and where it lies."""
     short = any(frame.short for frame in picture.frames.values())
     return (
         unlike_frames(picture.frames, right)
+        or next(filter(None, (miswide(frame, lengths) for frame in picture.frames.values())), "")
         or mistitled(picture, title)
         or unlike(" ".join(picture.said("counts")), counts)
         or unlike(" ".join(picture.said("words")), " ".join(sentences))
-        or unlike(picture.legend(), right_legend(list(right.values()), short))
+        or unlike(picture.legend(), right_legend(list(right.values()), short, lengths))
         or picture.mislaid()
     )
 
@@ -420,7 +450,9 @@ def drawing(*command: str, given: str = "") -> Ended:
     return run(["draw", *command], given=given)
 
 
-def misdrawn_list(now: Yard, goal: Yard, method: int, pairs: Sequence[Pair], ended: Ended) -> str:
+def misdrawn_list(
+    now: Yard, goal: Yard, method: int, pairs: Sequence[Pair], ended: Ended, lengths: Lengths = None
+) -> str:
     """What is wrong with the picture of a list that arrives."""
     if ended.returncode != 0:
         return f"ends with {ended.returncode}: {ended.stderr}"
@@ -428,7 +460,7 @@ def misdrawn_list(now: Yard, goal: Yard, method: int, pairs: Sequence[Pair], end
     said = [f"method {method} ({NAMES[method]})"] if method else []
     keys = [str(number) for number in range(len(pairs) + 1)]
     counts = right_counts(now, goal, *said, lifts_in_words(len(pairs)))
-    wrong = misshown(picture, right, sheet_line(now, goal), counts, [])
+    wrong = misshown(picture, right, sheet_line(now, goal, lengths), counts, [], lengths)
     return wrong or unlike(picture.keys, [keys[0], "goal", *keys[1:]])
 
 
@@ -461,6 +493,53 @@ def plain() -> Iterator[Test]:
         picture, line = Picture(ended.stdout), sheet_line(now, goal)
         wrong = misshown(picture, right_frames(now, goal, []), line, right_counts(now, goal), [])
         yield f"tools/draw, {line}", wrong or unlike(ended.returncode, 0)
+
+
+def levelled(picture: Picture) -> dict[str, Seen]:
+    """The frames of a picture, each counted from its ground up, which a longer heading moves down."""
+    found = {}
+    for key, frame in picture.frames.items():
+        low = max(place.bottom for place in frame.places.values())
+        places = {s: Box(p.left, p.top - low, p.right, p.bottom - low) for s, p in frame.places.items()}
+        found[key] = frame._replace(places=places)
+    return found
+
+
+def measured() -> Iterator[Test]:
+    """Sheets with lengths: alone, their lists, rings and loops; equal lengths are drawn as none."""
+    rng = random.Random(sheets.SEED)
+    for number in range(2 * DRAWN):
+        values = ((250, 300), (200, 500, 1200), range(200, 1200), (0, 1, 65535), (0,))[number % 5]
+        lengths = rng.choices(values, k=3 + number % 11)
+        now, goal, method = sheets.fitting(rng, lengths), sheets.fitting(rng, lengths), METHODS[number % 3]
+        line, pairs = sheet_line(now, goal, lengths), read(planning(method, now, goal)).pairs
+        ended = drawing("--method", str(method), line)
+        yield f"tools/draw --method {method}, {line}", misdrawn_list(now, goal, method, pairs, ended, lengths)
+        if number % 3 == 0:
+            right = right_frames(now, goal, [])
+            picture = Picture(drawing(line).stdout)
+            yield f"tools/draw, {line}", misshown(picture, right, line, right_counts(now, goal), [], lengths)
+            yield f"tools/draw --ring, {line}", misdrawn_ring(now, goal, lengths)
+            yield f"tools/draw --loop, {line}", misdrawn_loop(now, goal, lengths)
+    for now, goal in (S4, FIVE, WAITS):
+        for command in (["--method", "1"], ["--ring"], ["--loop"]):
+            lines = sheet_line(now, goal), sheet_line(now, goal, [300] * len(now))
+            alike = [levelled(Picture(drawing(*command, line).stdout)) for line in lines]
+            yield f"tools/draw {command}, {lines[1]}, as without lengths", unlike(alike[1], alike[0])
+
+
+def measured_lists() -> Iterator[Test]:
+    """Lists that do not heed lengths: the frames as far as they go, and the notice."""
+    now, lengths = [0, 1, 0], [300, 250, 200]
+    for pair, number in (((3, 2), 0), ((3, 1), 4), ((1, 3), 2), ((2, 3), 6)):
+        pairs = [(2, 0), (2, 1), pair, *([(3, 0)] if number == 0 else [])]
+        ended = drawing(sheet_line(now, now, lengths), list_line(pairs))
+        picture = Picture(ended.stdout)
+        wrong = unlike(replayed(now, now, pairs, lengths), (0, number, 3 if number else 0))
+        wrong = wrong or unlike_frames(picture.frames, right_frames(now, now, pairs[:2] if number else pairs))
+        notice = right_verdict(now, now, pairs, lengths) if number else ""
+        wrong = wrong or unlike((" ".join(picture.said("strong")), ended.returncode), (notice, int(number > 0)))
+        yield f"tools/draw, a list with lengths and verdict {number}", wrong
 
 
 def columns(frame: Seen) -> dict[int, float]:
@@ -545,6 +624,9 @@ REFUSED = [
     (["--loop", "0 0 / 2 1"], ["refused: 9, place 1", "1, 2, 1"]),
     (["--method", "4", "2 0 / 0 1"], ["refused: 1, place 0", "Is the method 1, 2 or 3?", "the method is 4"]),
     (["2 1 5 / 0 0 0", "1→0"], ["refused: 4, place 3"]),
+    (["2 0 / 0 0 / 300"], ["refused: 16, place 0", "Are there as many lengths as slabs?"]),
+    (["--method", "2", "2 0 / 0 0 / 300 250"], ["refused: 17, place 1", "is 300 cm long and rests on slab 2 now"]),
+    (["--ring", "0 0 / 0 1 / 250 300"], ["refused: 18, place 2", "rests on slab 1 in the goal"]),
 ]
 
 # What cannot be read: the command, what is given on standard input, and what the message must say.
@@ -636,9 +718,10 @@ def right_some(sentences: Sequence[str]) -> list[str]:
     return [*sentences[:SENTENCES], *rest]
 
 
-def misdrawn_ring(now: Yard, goal: Yard) -> str:
+def misdrawn_ring(now: Yard, goal: Yard, lengths: Lengths = None) -> str:
     """What is wrong with the picture of a deadlock, or of none."""
-    ended, line = drawing("--ring", sheet_line(now, goal)), sheet_line(now, goal)
+    line = sheet_line(now, goal, lengths)
+    ended = drawing("--ring", line)
     picture, pairs = Picture(ended.stdout), read(testing(now, goal)).pairs
     ring, between = {slab for slab, _ in pairs}, {through for _, through in pairs}
     right = right_frames(now, goal, [])
@@ -652,7 +735,7 @@ def misdrawn_ring(now: Yard, goal: Yard) -> str:
     counts = right_counts(now, goal, f"a ring of {size}" if pairs else "no deadlock")
     cost = right_cost(now, goal) if reading.misplaced(now, goal) else "nothing is misplaced"
     sentences = [*(right_some(ring_words(now, goal)) if pairs else ["no deadlock"]), cost]
-    return misshown(picture, right, line, counts, sentences) or unlike(ended.returncode, 0)
+    return misshown(picture, right, line, counts, sentences, lengths) or unlike(ended.returncode, 0)
 
 
 def right_waits(yard: Yard, goal: Yard) -> list[str]:
@@ -711,18 +794,19 @@ def right_loop_words(yard: Yard, goal: Yard, pairs: Sequence[Pair]) -> list[str]
     return [*before, *right_some(right_waits(yard, goal)), right_standing(yard, goal), meant]
 
 
-def misdrawn_loop(now: Yard, goal: Yard) -> str:
+def misdrawn_loop(now: Yard, goal: Yard, lengths: Lengths = None) -> str:
     """What is wrong with the picture of a loop, or of none."""
-    ended, line, counts = drawing("--loop", sheet_line(now, goal)), sheet_line(now, goal), right_counts(now, goal)
+    line, counts = sheet_line(now, goal, lengths), right_counts(now, goal)
+    ended = drawing("--loop", line)
     picture, (yard, pairs), right = Picture(ended.stdout), built(now, goal), right_frames(now, goal, [])
     if not is_stalled(yard, goal):
         sentences = ["no loop: every lift of method 2 is constructive, and no yard stalls"]
-        return misshown(picture, right, line, counts, sentences) or unlike(ended.returncode, 0)
+        return misshown(picture, right, line, counts, sentences, lengths) or unlike(ended.returncode, 0)
     caption = f"stalled after {lifts_in_words(len(pairs))}" if pairs else "now, stalled"
     frames = {str(len(pairs)): right_frame(yard, goal, caption, 0), "goal": right["goal"]}
     frames = {key: frame._replace(labels=right_labels(yard, goal)) for key, frame in frames.items()}
     sentences = right_loop_words(yard, goal, pairs)
-    return misshown(picture, frames, line, counts, sentences) or unlike(ended.returncode, 0)
+    return misshown(picture, frames, line, counts, sentences, lengths) or unlike(ended.returncode, 0)
 
 
 def rings_and_loops() -> Iterator[Test]:
@@ -765,6 +849,14 @@ def large() -> Iterator[Test]:
             wrong = wrong or mistitled(picture, sheet_line(now, goal))
             wrong = wrong or ("" if picture.wide < 3500 else f"{picture.wide} wide")
             yield f"tools/draw {' '.join(command)}, 200 slabs", wrong
+    lengths = rng.choices(range(200, 1200), k=200)
+    line = sheet_line(sheets.fitting(rng, lengths), sheets.fitting(rng, lengths), lengths)
+    for command in ([], ["--loop"], ["--ring"], ["--method", "2", "--frames", "40-42"]):
+        picture = Picture(drawing(*command, "-", given=line).stdout)
+        frames = picture.frames.values()
+        wrong = "; ".join(filter(None, (frame.wrong or miswide(frame, lengths) for frame in frames)))
+        wrong = wrong or picture.mislaid() or ("" if 0 < picture.wide < 4000 else f"{picture.wide} wide")
+        yield f"tools/draw {' '.join(command)}, 200 slabs with lengths", wrong or unlike(len(picture.frames) > 1, True)
     long = sheets.turned(120)[:2]
     picture = Picture(drawing(sheet_line(*long)).stdout)
     wrong = mistitled(picture, sheet_line(*long)) or picture.mislaid()
@@ -774,7 +866,8 @@ def large() -> Iterator[Test]:
     yield "tools/draw, the whole list of 200 slabs", "" if len(whole) < 10_000_000 else f"{len(whole)} bytes"
 
 
-PARTS = (lists, plain, piles_stay, some_frames, bad_lists, undrawn, sources, same_again, rings_and_loops, large)
+PARTS = (lists, plain, measured, measured_lists, piles_stay, some_frames, bad_lists, undrawn, sources, same_again)
+PARTS += (rings_and_loops, large)
 
 
 def tests() -> Iterator[Test]:

@@ -1,10 +1,12 @@
 """Runs the planning program, target/bin/plan, on whole files of records and compares what it writes.
 
-What it should write comes from document 01's question 12 read literally here, and from the plans of
-reading.py; full yards take their plans from the closed forms of sheets.py. Each run has 512 KiB of stack.
+What it should write comes from document 01's question 12 read literally here, with the heads and lengths of document
+02, and from the plans of reading.py; full yards take their plans from the closed forms of sheets.py. Each run has 512
+KiB of stack.
 An input whose records decide the answer is answered within a second, though it never ends or is not closed.
 """
 
+import itertools
 import os
 import random
 import resource
@@ -19,9 +21,9 @@ from pathlib import Path
 
 import reading
 import sheets
-from case import planning, read
+from case import measured, planning, read
 from reading import METHODS, MOST, TOP
-from records import ENTRY, EXAMPLE, HEAD, KEPT, LIFT, LONGEST_ANSWER, LONGEST_INPUT
+from records import ENTRY, EXAMPLE, HEAD, HEADS, KEPT, LIFT, LONGEST_ANSWER, LONGEST_INPUT
 from records import asked, head, packed, planned, refused, unpacked
 
 PROGRAM = Path(__file__).resolve().parent.parent / "target" / "bin" / "plan"
@@ -29,6 +31,8 @@ VECTORS = Path(__file__).resolve().parent / "vectors" / "program.txt"
 SEED = 12
 SHEETS = 200
 STACK = 512 * 1024
+# The marks of the lists of a sheet.
+MARKS = ("NW", "GL", "LN")
 TAIL = 3_000_000
 SOON = 1.0
 
@@ -37,21 +41,22 @@ def answer(data: bytes) -> bytes:
     """What document 01 has the program write: 12 of the head, 1, 2, 12 of the other records in order, then 4 on."""
     found, rest = unpacked(data)
     marks = [mark for mark, _ in found]
-    if marks[:1] != ["HD"]:
+    if not marks or marks[0] not in HEADS:
         return refused(12, 0)
     n, method = found[0].fields
     if method not in METHODS:
         return refused(1, 0)
     if n > MOST:
         return refused(2, 0)
-    wished = ["HD", *["NW"] * n, *["GL"] * n]
+    wished = [marks[0], *["NW"] * n, *["GL"] * n, *["LN"] * (n if marks[0] == "HL" else 0)]
     for before, mark in enumerate(wished):
         if marks[before : before + 1] != [mark]:
             return refused(12, before)
     if len(marks) > len(wished) or rest:
         return refused(12, len(wished))
     entries = [record.fields[0] for record in found[1:]]
-    (number, place, _, misplaced), pairs = read(planning(method, entries[:n], entries[n:]))
+    cases = [planning(method, entries[:n], entries[n : 2 * n])]
+    (number, place, _, misplaced), pairs = read(*(measured(cases, entries[2 * n :]) if marks[0] == "HL" else cases))
     return refused(number, place) if number else planned(misplaced, pairs)
 
 
@@ -67,30 +72,54 @@ def vectors() -> Iterator[tuple[bytes, bytes]]:
 
 
 def documents() -> Iterator[bytes]:
-    """The sheets of document 01, starred and others, and the trials, by every method and by numbers that are none."""
+    """The sheets of document 01, starred and others, and the trials, by every method and by numbers that are none.
+
+    Each also with equal lengths.
+    """
     for now, goal, *_ in (*sheets.ENDS, *sheets.COUNTS, *sheets.TRIALS, *sheets.REFUSED):
-        yield from (asked(method, now, goal) for method in (0, *METHODS, 4, TOP))
+        for lengths in (None, [300] * len(now)):
+            yield from (asked(method, now, goal, lengths) for method in (0, *METHODS, 4, TOP))
+
+
+# S5 of document 01, and with lengths that fit.
+S5 = [2, 3, 0, 5, 0], [5, 0, 0, 3, 2]
+S5_LONG = *S5, [100, 250, 300, 200, 200]
 
 
 def marred() -> Iterator[bytes]:
-    """A valid input cut at every byte, with each byte of each mark turned, and with one byte after its end."""
-    whole = asked(3, [2, 3, 0, 5, 0], [5, 0, 0, 3, 2])
-    yield from (whole[:size] for size in range(len(whole) + 1))
-    for start in (0, *range(HEAD, len(whole), ENTRY)):
-        for at in (start, start + 1):
-            yield whole[:at] + bytes([whole[at] ^ 1]) + whole[at + 1 :]
-    yield from (whole + bytes([last]) for last in (0, 0x4E, 0xFF))
+    """Valid inputs cut at every byte, with each byte of each mark turned, and with one byte after their end."""
+    for whole in (asked(3, *S5), asked(3, *S5_LONG)):
+        yield from (whole[:size] for size in range(len(whole) + 1))
+        for start in (0, *range(HEAD, len(whole), ENTRY)):
+            for at in (start, start + 1):
+                yield whole[:at] + bytes([whole[at] ^ 1]) + whole[at + 1 :]
+        yield from (whole + bytes([last]) for last in (0, 0x4C, 0x4E, 0xFF))
+        yield from (whole + packed(f"{mark} 0") for mark in ("NW", "GL", "LN"))
+
+
+def remarked() -> Iterator[bytes]:
+    """Valid inputs with the mark of each record that of another, by every mark that is read; and heads exchanged."""
+    for whole in (asked(3, *S5), asked(3, *S5_LONG)):
+        for at, mark in itertools.product((0, *range(HEAD, len(whole), ENTRY)), (b"HD", b"HL", b"NW", b"GL", b"LN")):
+            yield whole[:at] + mark + whole[at + 2 :]
+    now, goal, lengths = (packed(", ".join(f"{mark} {k}" for k in part)) for mark, part in zip(MARKS, S5_LONG))
+    for parts in itertools.permutations((now, goal, lengths)):
+        yield head(5, 2, "HL") + b"".join(parts)
+    for mark in HEADS:
+        yield head(5, 2, mark) + now + goal + lengths + lengths
+        yield head(5, 2, mark) + now + goal + lengths[:-ENTRY]
 
 
 def heads() -> Iterator[bytes]:
     """Inputs of a head alone: cut short, of another mark, with and without a tail, of each method and of large n."""
-    whole = head(0, 1)
-    yield from (whole[:size] for size in range(len(whole) + 1))
-    yield from (mark + whole[len(mark) :] for mark in (b"XD", b"HX", b"NW", b"DH"))
-    for n in (0, 1, MOST, MOST + 1, TOP):
-        for method in (0, *METHODS, 4, 256, 513, TOP):
-            yield head(n, method)
-            yield head(n, method) + b"N"
+    for mark in HEADS:
+        whole = head(0, 1, mark)
+        yield from (whole[:size] for size in range(len(whole) + 1))
+        yield from (other + whole[len(other) :] for other in (b"XD", b"HX", b"NW", b"DH", b"LH", b"LN"))
+        for n in (0, 1, MOST, MOST + 1, TOP):
+            for method in (0, *METHODS, 4, 256, 513, TOP):
+                yield head(n, method, mark)
+                yield head(n, method, mark) + b"N"
 
 
 def damaged(rng: random.Random, data: bytes) -> Iterator[bytes]:
@@ -113,36 +142,54 @@ def random_inputs() -> Iterator[bytes]:
         yield from damaged(rng, asked(method, now, goal))
         yield asked(method, loose, goal)
         yield asked(method, now, loose)
+        lengths = rng.choices((0, 250, 300, TOP), k=n)
+        fitted = sheets.fitting(rng, lengths), sheets.fitting(rng, lengths), lengths
+        yield asked(method, *fitted)
+        yield from damaged(rng, asked(method, *fitted))
+        yield from (asked(method, *some, lengths) for some in ((now, fitted[1]), (fitted[0], goal), (now, loose)))
 
 
 def full() -> Iterator[bytes]:
-    """Full yards that are refused: cut off, with a bad mark in the last NW or GL record, with tails short and long."""
-    flat = [0] * MOST
-    whole = asked(1, flat, flat)
-    yield from (whole[:-size] for size in (1, ENTRY - 1, ENTRY, ENTRY + 1, ENTRY * MOST, ENTRY * MOST + 1))
-    for records in (MOST, 2 * MOST):
-        at = HEAD + ENTRY * (records - 1)
-        marred = whole[:at] + b"X" + whole[at + 1 :]
-        yield from (marred, marred + bytes(TAIL))
-    yield from (whole + bytes(size - len(whole)) for size in (KEPT, KEPT + 1, len(whole) + TAIL))
-    yield asked(0, flat, flat) + bytes(TAIL)
-    yield asked(2, [TOP, *flat[1:]], flat)
+    """Full yards that are refused: cut off, with a bad mark in the last record of each kind, with tails short and long.
+
+    With lengths also the first and the last slab that overhangs, now and in the goal.
+    """
+    flat, tower = [0] * MOST, sheets.tower(MOST)
+    for lengths, kinds in ((None, 2), (flat, 3)):
+        whole = asked(1, flat, flat, lengths)
+        yield from (whole[:-size] for size in (1, ENTRY - 1, ENTRY, ENTRY + 1, ENTRY * MOST, ENTRY * MOST + 1))
+        for kind in range(kinds):
+            at = HEAD + ENTRY * (MOST * (kind + 1) - 1)
+            marred = whole[:at] + b"X" + whole[at + 1 :]
+            yield from (marred, marred + bytes(TAIL))
+        yield from (whole + bytes(size) for size in (1, 2, TAIL))
+        yield asked(0, flat, flat, lengths) + bytes(TAIL)
+        yield asked(2, [TOP, *flat[1:]], flat, lengths)
+    for lengths in ([0, *[1] * (MOST - 1)], [*flat[1:], 1]):
+        yield from (asked(2, now, goal, lengths) for now, goal in ((tower, flat), (flat, tower)))
 
 
 def plans() -> Iterator[tuple[bytes, bytes]]:
-    """Full yards with their plans in closed form: the longest input, and the plans of 3,000 and more lifts."""
+    """Full yards with their plans in closed form, also with equal lengths: the longest input, and the longest plans."""
     for known in sheets.full_yards():
-        for method in METHODS:
-            yield asked(method, known.now, known.goal), planned(known.misplaced(), known.pairs(method))
+        for method, lengths in itertools.product(METHODS, (None, [TOP] * len(known.now))):
+            told = planned(known.misplaced(), known.pairs(method))
+            yield asked(method, known.now, known.goal, lengths), told
+    flat, tower = [0] * MOST, sheets.tower(MOST)
+    falling = [*range(MOST, 0, -1)]
+    yield asked(2, flat, tower, falling), planned(MOST - 1, [(slab, slab - 1) for slab in range(2, MOST + 1)])
 
 
 def sizes() -> Iterator[tuple[bool, str]]:
     """The lengths of records, of the longest input, and of the longest plan, in which all but one are lifted twice."""
     known = sheets.turned(MOST)
     longest = planned(known.misplaced(), known.pairs(1))
-    for words, size in (("HD 0 0", HEAD), ("NW 0", ENTRY), ("GL 0", ENTRY), ("PL 0 0", HEAD), ("LF 0 0", LIFT)):
+    for words in ("HD 0 0", "HL 0 0", "PL 0 0", "NO 0 0"):
+        yield len(packed(words)) == HEAD, f"the length of {words}"
+    for words, size in (("NW 0", ENTRY), ("GL 0", ENTRY), ("LN 0", ENTRY), ("LF 0 0", LIFT)):
         yield len(packed(words)) == size, f"the length of {words}"
-    yield len(asked(1, known.now, known.goal)) == LONGEST_INPUT, "the length of the longest input"
+    longest_input = asked(1, known.now, known.goal, [0] * MOST)
+    yield len(longest_input) == LONGEST_INPUT == 48_006, "the length of the longest input"
     yield len(longest) + 2 * LIFT == LONGEST_ANSWER, "the length of the longest answer"
 
 
@@ -168,15 +215,20 @@ def slowly(data: bytes, size: int) -> bytes:
 
 def decided() -> Iterator[tuple[bytes, bytes]]:
     """Inputs with their answers by questions 12, 1 and 2, which no byte behind them can change."""
-    whole = asked(3, [2, 3, 0, 5, 0], [5, 0, 0, 3, 2])
+    whole, long = asked(3, *S5), asked(3, *S5_LONG)
     flat = [0] * MOST
     yield bytes(HEAD), refused(12, 0)
-    yield from ((head(5, method), refused(1, 0)) for method in (0, 4, TOP))
-    yield head(MOST + 1, 1), refused(2, 0)
+    yield from ((head(5, method, mark), refused(1, 0)) for method in (0, 4, TOP) for mark in HEADS)
+    yield from ((head(MOST + 1, 1, mark), refused(2, 0)) for mark in HEADS)
     yield whole[:HEAD] + packed("GL 0"), refused(12, 1)
     yield whole[: HEAD + 2 * ENTRY] + bytes(ENTRY), refused(12, 3)
     yield whole[: HEAD + 7 * ENTRY] + packed("NW 0"), refused(12, 8)
     yield whole + b"\0", refused(12, 2 * 5 + 1)
+    yield long[: HEAD + 10 * ENTRY] + packed("GL 0"), refused(12, 11)
+    yield long[: HEAD + 14 * ENTRY] + packed("NW 0"), refused(12, 15)
+    yield long + b"\0", refused(12, 3 * 5 + 1)
+    yield head(0, 2, "HL") + b"L", refused(12, 1)
+    yield asked(1, flat, flat, flat) + b"\0", refused(12, 3 * MOST + 1)
     yield EXAMPLE[0] + b"N", refused(12, 2 * 2 + 1)
     yield asked(1, flat, flat) + b"\0", refused(12, 2 * MOST + 1)
 
@@ -241,7 +293,8 @@ def taken(data: bytes) -> int:
 
 def stops() -> Iterator[tuple[bool, str]]:
     """Inputs that come in pieces, that never end, that are held open, and how far a file is read."""
-    for data, told in (EXAMPLE, *decided()):
+    measured_example = asked(2, *S5_LONG), answer(asked(2, *S5_LONG))
+    for data, told in (EXAMPLE, measured_example, *decided()):
         for size in (1, 3, 5, 7) if len(data) < 100 else (1001, 4096):
             yield run(data) == told == slowly(data, size), f"{len(data)} bytes in pieces of {size}: {data[:40].hex()}"
     yield zeros() == refused(12, 0), "zeros without end"
@@ -249,7 +302,12 @@ def stops() -> Iterator[tuple[bool, str]]:
     for front, told in decided():
         yield endless(front) == told, f"{len(front)} bytes and zeros without end: {front[:40].hex()}"
         yield held(front) == told, f"{len(front)} bytes held open: {front[:40].hex()}"
-    for front, size in ((b"", HEAD), (head(5, 0), HEAD), (EXAMPLE[0], len(EXAMPLE[0]) + 1)):
+    long = asked(3, *S5_LONG)
+    full_yard = asked(1, *[[0] * MOST] * 3)
+    for front in (EXAMPLE[0], long, full_yard):
+        yield taken(front + bytes(TAIL)) == len(front) + 1, f"reading {len(front) + 1} bytes of a long file"
+    yield len(full_yard) + 1 == KEPT, "the most bytes that are read"
+    for front, size in ((b"", HEAD), (head(5, 0), HEAD), (head(5, 0, "HL"), HEAD)):
         yield taken(front + bytes(TAIL)) == size, f"reading {size} bytes of a long file: {front.hex()}"
 
 
@@ -265,7 +323,7 @@ def unheard(data: bytes) -> bool:
 def main() -> int:
     """Runs all inputs and counts those that are answered as they should be."""
     print(f"seed {SEED}")
-    inputs = [*documents(), *marred(), *heads(), *random_inputs(), *full()]
+    inputs = [*documents(), *marred(), *remarked(), *heads(), *random_inputs(), *full()]
     pairs = [EXAMPLE, *vectors(), *((data, answer(data)) for data in inputs), *plans()]
     others = [
         (unheard(pairs[-1][0]), "a full yard's plan into a closed pipe"),

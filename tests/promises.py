@@ -1,11 +1,14 @@
-"""Demands 2 and 3 on a small accepted sheet: what a list, a count and a deadlock answer keep, by search."""
+"""Demands 2 and 3 on a small accepted sheet: what a list, a count, a verdict and a deadlock answer keep, by search.
+
+With lengths the comparison is with lists that are legal under their rule.
+"""
 
 from collections.abc import Sequence
 from typing import NamedTuple
 
 import reading
-from case import Case, flat
-from reading import Pair, Yard
+from case import Case, paired
+from reading import Lengths, Pair, Yard
 
 
 class Searched(NamedTuple):
@@ -13,19 +16,33 @@ class Searched(NamedTuple):
 
     now: Yard
     goal: Yard
+    lengths: Lengths
     fewest: int
     deadlocked: bool
 
 
-def searched(now: Yard, goal: Yard) -> Searched:
+def searched(now: Yard, goal: Yard, lengths: Lengths = None) -> Searched:
     """What search and definition say of a sheet of at most 7 slabs."""
-    return Searched(now, goal, reading.shortest(now, goal), reading.deadlocked(now, goal))
+    # Of an accepted sheet the fewest lifts are as many with lengths and without: a search that does not heed their rule
+    # is not noticed by its number. Lists that do not heed it are noticed by `arrives`.
+    fewest = reading.shortest(now, goal, lengths)
+    return Searched(now, goal, lengths, fewest, reading.deadlocked(now, goal))
+
+
+def arrives(sheet: Searched, pairs: Sequence[Pair]) -> bool:
+    """Whether each pair in turn is a lift in the yard as those before it left it, and the end is the goal."""
+    yard = list(sheet.now)
+    for pair in pairs:
+        if pair not in reading.all_lifts(yard, sheet.lengths):
+            return False
+        yard = reading.lifted(yard, *pair)
+    return yard == list(sheet.goal)
 
 
 def unkept_by_list(sheet: Searched, method: int, pairs: Sequence[Pair]) -> list[str]:
     """What the list of a method breaks: it arrives, in at most 2 × L lifts, or L without a deadlock."""
     wrong: list[str] = []
-    if reading.replay(sheet.now, sheet.goal, flat(pairs)) != (0, 0, 0):
+    if not arrives(sheet, pairs):
         wrong.append(f"method {method} does not arrive")
     at_once = method != 1 and not sheet.deadlocked
     if len(pairs) > (1 if at_once else 2) * sheet.fewest:
@@ -54,8 +71,16 @@ def unkept_by_count(sheet: Searched, misplaced: int) -> list[str]:
     return []
 
 
+def unkept_by_verdict(sheet: Searched, lifts: Sequence[int], numbers: Sequence[int]) -> list[str]:
+    """What a verdict breaks: it is 0 just where the list is legal and arrives."""
+    right = len(lifts) % 2 == 0 and arrives(sheet, paired(lifts))
+    return [f"{numbers} for a list of which it is {right} that it arrives"] if (numbers[:2] == (0, 0)) != right else []
+
+
 def unkept(sheet: Searched, case: Case, numbers: Sequence[int], pairs: Sequence[Pair]) -> list[str]:
-    """What the numbers and pairs of a case of planning or of the deadlock test break."""
+    """What the numbers and pairs of a case of planning, of the deadlock test or of replay break."""
     if case.operation == "plan":
         return unkept_by_list(sheet, case.method, pairs) + unkept_by_count(sheet, numbers[3])
-    return unkept_by_test(sheet, pairs)
+    if case.operation == "deadlock":
+        return unkept_by_test(sheet, pairs)
+    return unkept_by_verdict(sheet, case.lifts, numbers)

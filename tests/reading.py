@@ -1,6 +1,7 @@
-"""Document 01 read literally: the questions, the three methods, the deadlock test and replay; training of document 02.
+"""Document 01 read literally: the questions, the three methods, the deadlock test and replay.
 
-An arrangement is a list of n numbers: entry i - 1 says what slab i rests on, 0 for the ground.
+Of document 02 training, and lengths. An arrangement is a list of n numbers: entry i - 1 says what slab i rests on, 0
+for the ground. Lengths are None where a sheet has none, which is not the same as a list of none.
 Each function follows its sentence and none is meant to be fast. `shortest` and `deadlocked`
 decide by search what the document only defines.
 """
@@ -12,14 +13,16 @@ from collections.abc import Sequence
 
 Yard = Sequence[int]
 Pair = tuple[int, int]
+Lengths = Sequence[int] | None
 
-# The most slabs of a sheet and of a training sheet, the highest 16-bit number, the numbers of the methods, and what a
-# refused replay has in place of a verdict.
+# The most slabs of a sheet and of a training sheet, the highest 16-bit number, the numbers of the methods, what a
+# refused replay has in place of a verdict, and the bit of options that says that a sheet has lengths.
 MOST = 4000
 MOST_TRAINED = 16
 TOP = 65535
 METHODS = (1, 2, 3)
 NO_VERDICT = 65535
+LENGTHS = 1
 
 # What the verdicts of replay say.
 VERDICTS = {
@@ -28,6 +31,7 @@ VERDICTS = {
     3: "it already rests there",
     4: "the destination is the slab itself or a slab that is not clear",
     5: "all lifts are legal and the end differs from the goal",
+    6: "it is too long for its destination",
 }
 
 
@@ -67,13 +71,24 @@ def misplaced(now: Yard, goal: Yard) -> list[int]:
     return [s for s in slabs(now) if not in_position(now, goal, s)]
 
 
-def is_lift(yard: Yard, slab: int, destination: int) -> bool:
-    """Whether a clear slab goes to the ground or another clear slab, and not to where it rests."""
+def overhangs(lengths: Lengths, slab: int, support: int) -> bool:
+    """Whether a slab is longer than the slab that it rests on; the ground takes any."""
+    return lengths is not None and support != 0 and lengths[slab - 1] > lengths[support - 1]
+
+
+def overhanging(yard: Yard, lengths: Lengths) -> int:
+    """The lowest slab that overhangs; 0 where none does."""
+    return next((s for s in slabs(yard) if overhangs(lengths, s, yard[s - 1])), 0)
+
+
+def is_lift(yard: Yard, slab: int, destination: int, lengths: Lengths = None) -> bool:
+    """Whether a clear slab goes to the ground or another clear slab that is not shorter, and not to where it rests."""
     return (
         clear(yard, slab)
         and clear(yard, destination)
         and destination != slab
         and destination != yard[slab - 1]
+        and not overhangs(lengths, slab, destination)
     )
 
 
@@ -82,19 +97,19 @@ def lifted(yard: Yard, slab: int, destination: int) -> list[int]:
     return [destination if s == slab else yard[s - 1] for s in slabs(yard)]
 
 
-def is_constructive(now: Yard, goal: Yard, slab: int) -> bool:
+def is_constructive(now: Yard, goal: Yard, slab: int, lengths: Lengths = None) -> bool:
     """Whether a misplaced slab has a lift to its goal support, the ground or a slab in position."""
     support = goal[slab - 1]
     return (
         not in_position(now, goal, slab)
-        and is_lift(now, slab, support)
+        and is_lift(now, slab, support, lengths)
         and (support == 0 or in_position(now, goal, support))
     )
 
 
-def constructive(now: Yard, goal: Yard) -> int:
+def constructive(now: Yard, goal: Yard, lengths: Lengths = None) -> int:
     """The lowest-numbered slab that has a constructive lift; 0 where none has."""
-    return next((s for s in slabs(now) if is_constructive(now, goal, s)), 0)
+    return next((s for s in slabs(now) if is_constructive(now, goal, s, lengths)), 0)
 
 
 def to_put_down(now: Yard, goal: Yard) -> int:
@@ -122,8 +137,8 @@ def arrangement_fault(yard: Yard) -> tuple[int, int]:
     return 0, 0
 
 
-def check(now: Yard, goal: Yard) -> tuple[int, int]:
-    """Questions 2 to 9: the number and the place of the first "no"; 0, 0 where all get a yes."""
+def check(now: Yard, goal: Yard, lengths: Lengths = None) -> tuple[int, int]:
+    """Questions 2 to 9, with lengths 16 to 18: the number and the place of the first "no"; 0, 0 where all get a yes."""
     if len(now) > MOST:
         return 2, 0
     if len(goal) != len(now):
@@ -132,6 +147,11 @@ def check(now: Yard, goal: Yard) -> tuple[int, int]:
         fault, place = arrangement_fault(yard)
         if fault != 0:
             return before + fault, place
+    if lengths is not None and len(lengths) != len(now):
+        return 16, 0
+    for yard, number in ((now, 17), (goal, 18)):
+        if slab := overhanging(yard, lengths):
+            return number, slab
     return 0, 0
 
 
@@ -165,23 +185,23 @@ def loop(now: Yard, goal: Yard) -> list[int]:
     return visits(now, goal, next(s for s in misplaced(now, goal) if clear(now, s)))[1]
 
 
-def method_us(now: Yard, goal: Yard) -> list[Pair]:
+def method_us(now: Yard, goal: Yard, lengths: Lengths = None) -> list[Pair]:
     """Method 1: all misplaced slabs to the ground, then the constructive lifts."""
     pairs: list[Pair] = []
     while slab := to_put_down(now, goal):
         pairs.append((slab, 0))
         now = lifted(now, slab, 0)
-    while slab := constructive(now, goal):
+    while slab := constructive(now, goal, lengths):
         pairs.append((slab, goal[slab - 1]))
         now = lifted(now, slab, goal[slab - 1])
     return pairs
 
 
-def method_gn(method: int, now: Yard, goal: Yard) -> list[Pair] | None:
+def method_gn(method: int, now: Yard, goal: Yard, lengths: Lengths = None) -> list[Pair] | None:
     """Methods 2 and 3: constructive lifts, at a stall one slab to the ground; None where there is none."""
     pairs: list[Pair] = []
     while misplaced(now, goal):
-        if slab := constructive(now, goal):
+        if slab := constructive(now, goal, lengths):
             destination = goal[slab - 1]
         else:
             slab = to_put_down(now, goal) if method == 2 else min(loop(now, goal))
@@ -204,31 +224,31 @@ def deadlock_space(n: int) -> int:
 
 
 def plan(
-    method: int, now: Yard, goal: Yard, space_len: int
+    method: int, now: Yard, goal: Yard, space_len: int, lengths: Lengths = None
 ) -> tuple[int, int, int, int, list[Pair]]:
     """Planning: number, place, lift count, misplaced slabs at the start and the pairs written."""
     if method not in METHODS:
         return 1, 0, 0, 0, []
-    number, place = check(now, goal)
+    number, place = check(now, goal, lengths)
     if number != 0:
         return number, place, 0, 0, []
     if space_len < plan_space(len(now)):
         return 10, 0, 0, 0, []
-    pairs = method_us(now, goal) if method == 1 else method_gn(method, now, goal)
+    pairs = method_us(now, goal, lengths) if method == 1 else method_gn(method, now, goal, lengths)
     if pairs is None:
         return 13, 0, 0, 0, []
     return 0, 0, len(pairs), len(misplaced(now, goal)), pairs
 
 
-def deadlock(now: Yard, goal: Yard, space_len: int) -> tuple[int, int, int, list[Pair]]:
+def deadlock(now: Yard, goal: Yard, space_len: int, lengths: Lengths = None) -> tuple[int, int, int, list[Pair]]:
     """The deadlock test: number, place, count and the pairs written."""
-    number, place = check(now, goal)
+    number, place = check(now, goal, lengths)
     if number != 0:
         return number, place, 0, []
     if space_len < deadlock_space(len(now)):
         return 10, 0, 0, []
     yard: Yard = list(now)
-    while slab := constructive(yard, goal):
+    while slab := constructive(yard, goal, lengths):
         yard = lifted(yard, slab, goal[slab - 1])
     if not misplaced(yard, goal):
         return 0, 0, 0, []
@@ -238,8 +258,8 @@ def deadlock(now: Yard, goal: Yard, space_len: int) -> tuple[int, int, int, list
     return 0, 0, len(turned), [(s, in_the_way(yard, goal, s)) for s in turned]
 
 
-def lift_fault(yard: Yard, slab: int, destination: int) -> int:
-    """What is bad about a pair, by the four tests in their order; 0 for a lift."""
+def lift_fault(yard: Yard, slab: int, destination: int, lengths: Lengths = None) -> int:
+    """What is bad about a pair, by the tests in their order; 0 for a lift."""
     n = len(yard)
     if not 1 <= slab <= n or destination > n:
         return 1
@@ -249,12 +269,12 @@ def lift_fault(yard: Yard, slab: int, destination: int) -> int:
         return 3
     if destination == slab or not clear(yard, destination):
         return 4
-    return 0
+    return 6 if overhangs(lengths, slab, destination) else 0
 
 
-def replay(now: Yard, goal: Yard, lifts: Sequence[int]) -> tuple[int, int, int]:
+def replay(now: Yard, goal: Yard, lifts: Sequence[int], lengths: Lengths = None) -> tuple[int, int, int]:
     """Replay: number, verdict and place; a refusal has no verdict, and the place is the refusal's."""
-    number, place = check(now, goal)
+    number, place = check(now, goal, lengths)
     if number != 0:
         return number, NO_VERDICT, place
     if len(lifts) % 2 != 0:
@@ -262,7 +282,7 @@ def replay(now: Yard, goal: Yard, lifts: Sequence[int]) -> tuple[int, int, int]:
     yard: Yard = list(now)
     for k in range(len(lifts) // 2):
         slab, destination = lifts[2 * k], lifts[2 * k + 1]
-        verdict = lift_fault(yard, slab, destination)
+        verdict = lift_fault(yard, slab, destination, lengths)
         if verdict != 0:
             return 0, verdict, k + 1
         yard = lifted(yard, slab, destination)
@@ -327,27 +347,27 @@ def training_draw(seed: int, n: int, space_len: int) -> tuple[int, int, int, lis
     return 0, 0, after, arranged(n, after % ways(n, 0))
 
 
-def all_lifts(yard: Yard) -> list[Pair]:
+def all_lifts(yard: Yard, lengths: Lengths = None) -> list[Pair]:
     """Every pair that is a lift in a yard."""
-    return [(s, d) for s in slabs(yard) for d in range(len(yard) + 1) if is_lift(yard, s, d)]
+    return [(s, d) for s in slabs(yard) for d in range(len(yard) + 1) if is_lift(yard, s, d, lengths)]
 
 
 @functools.cache
-def yards_after(yard: tuple[int, ...]) -> list[tuple[int, ...]]:
+def yards_after(yard: tuple[int, ...], lengths: tuple[int, ...] | None = None) -> list[tuple[int, ...]]:
     """The yards that one lift leads to."""
-    return [tuple(lifted(yard, slab, destination)) for slab, destination in all_lifts(yard)]
+    return [tuple(lifted(yard, slab, destination)) for slab, destination in all_lifts(yard, lengths)]
 
 
-def shortest(now: Yard, goal: Yard) -> int:
-    """The fewest lifts of an accepted sheet of at most 7 slabs, by breadth-first search."""
-    wished = tuple(goal)
+def shortest(now: Yard, goal: Yard, lengths: Lengths = None) -> int:
+    """The fewest lifts of an accepted sheet of at most 7 slabs, by breadth-first search under the rule of lengths."""
+    wished, rule = tuple(goal), None if lengths is None else tuple(lengths)
     far = {tuple(now): 0}
     waiting = deque(far)
     while waiting:
         yard = waiting.popleft()
         if yard == wished:
             return far[yard]
-        for after in yards_after(yard):
+        for after in yards_after(yard, rule):
             if after not in far:
                 far[after] = far[yard] + 1
                 waiting.append(after)

@@ -10,13 +10,14 @@ from collections.abc import Sequence
 from pathlib import Path
 from typing import NamedTuple
 
-from reading import MOST, Pair, Yard
+from reading import MOST, Lengths, Pair, Yard
 
 TOOL = Path(__file__).resolve().parent.parent / "tools" / "records.py"
 
-# The bytes of HD, PL and NO, of NW and GL, and of LF.
+# The bytes of HD, HL, PL and NO, of NW, GL and LN, and of LF.
 HEAD, ENTRY, LIFT = 6, 4, 6
-LONGEST_INPUT = HEAD + 2 * MOST * ENTRY
+# The longest input is one with lengths.
+LONGEST_INPUT = HEAD + 3 * MOST * ENTRY
 # What the program keeps of its input: one byte more than the longest has, so that it sees a tail.
 KEPT = LONGEST_INPUT + 1
 # PL and two lifts of each slab.
@@ -67,15 +68,20 @@ def unpacked(data: bytes) -> tuple[list[Record], bytes]:
     return [Record(mark, [int(field) for field in fields]) for mark, *fields in records], bytes.fromhex(rest)
 
 
-def head(n: int, method: int) -> bytes:
+# The marks of heads, of sheets without lengths and with them.
+HEADS = ("HD", "HL")
+
+
+def head(n: int, method: int, mark: str = "HD") -> bytes:
     """The head of an input."""
-    return packed(f"HD {n} {method}")
+    return packed(f"{mark} {n} {method}")
 
 
-def asked(method: int, now: Yard, goal: Yard) -> bytes:
-    """The input of a sheet: HD, the NW records, the GL records."""
+def asked(method: int, now: Yard, goal: Yard, lengths: Lengths = None) -> bytes:
+    """The input of a sheet: HD, the NW records, the GL records; with lengths HL, and the LN records last."""
     entries = [*(f"NW {entry}" for entry in now), *(f"GL {entry}" for entry in goal)]
-    return packed(", ".join([f"HD {len(now)} {method}", *entries]))
+    entries += [f"LN {length}" for length in lengths or ()]
+    return packed(", ".join([f"{HEADS[lengths is not None]} {len(now)} {method}", *entries]))
 
 
 def planned(misplaced: int, pairs: Sequence[Pair]) -> bytes:

@@ -1,6 +1,6 @@
 """What tools/sheet should say of a sheet, in words and as objects, by the reading; and whether its claims are true.
 
-And the training sheets that it should draw.
+And the training sheets that it should draw. Lengths change what a list may be and nothing that is said of it.
 """
 
 import re
@@ -9,7 +9,7 @@ from typing import Any
 
 import reading
 from case import planning, read, testing
-from reading import METHODS, VERDICTS, Pair, Yard
+from reading import METHODS, VERDICTS, Lengths, Pair, Yard
 from tested import list_line, sheet_line
 
 # So many slabs are named before the rest is only counted, and so many links of a ring are spelled out.
@@ -115,7 +115,7 @@ def right_floor(now: Yard, goal: Yard) -> str:
 
 def writers(methods: Sequence[int]) -> str:
     """Methods that write a list."""
-    return f"method {methods[0]} writes" if len(methods) == 1 else f"methods {methods[0]} and {methods[1]} write"
+    return f"method {methods[0]} writes" if len(methods) == 1 else f"methods {numbered(methods, ' and ')} write"
 
 
 def right_length(now: Yard, goal: Yard, count: int) -> str:
@@ -132,9 +132,9 @@ def right_length(now: Yard, goal: Yard, count: int) -> str:
     return f"{right_floor(now, goal)}; this list has {count}, {end}{known}"
 
 
-def untrue(now: Yard, goal: Yard, count: int, sentence: str) -> str:
+def untrue(now: Yard, goal: Yard, count: int, sentence: str, lengths: Lengths = None) -> str:
     """What a sentence on a list claims of the shortest one that the search does not find."""
-    fewest = reading.shortest(now, goal)
+    fewest = reading.shortest(now, goal, lengths)
     wrong = []
     if found := re.match(r"at least (\d+) lift", sentence):
         wrong += [found[0]] * (fewest < int(found[1]))
@@ -143,7 +143,7 @@ def untrue(now: Yard, goal: Yard, count: int, sentence: str) -> str:
     if found := re.search(r"(at most )?(\d+) more than the shortest", sentence):
         more = int(found[2])
         wrong += [found[0]] * (count - fewest > more or not found[1] and count - fewest != more)
-    return f"{sheet_line(now, goal)}: {wrong}, and the shortest has {fewest}" if wrong else ""
+    return f"{sheet_line(now, goal, lengths)}: {wrong}, and the shortest has {fewest}" if wrong else ""
 
 
 def right_head(now: Yard, goal: Yard) -> str:
@@ -153,13 +153,13 @@ def right_head(now: Yard, goal: Yard) -> str:
     return f"{head} at the start, {means}"
 
 
-def right_plan(method: int, now: Yard, goal: Yard) -> str:
+def right_plan(method: int, now: Yard, goal: Yard, lengths: Lengths = None) -> str:
     """All that the tool should print of a plan, its lines unwrapped."""
     (_, _, count, _), pairs = read(planning(method, now, goal))
     counts = ", ".join(f"{len(read(planning(m, now, goal)).pairs)} by method {m}" for m in METHODS)
     rows = [
         f"list: {list_line(pairs) or 'no lifts'}",
-        f"sheet: {sheet_line(now, goal)}",
+        f"sheet: {sheet_line(now, goal, lengths)}",
         f"method: {method} ({('US', 'GN1', 'GN2')[method - 1]})",
         f"lifts: {counts}",
         f"misplaced: {right_head(now, goal)}",
@@ -176,7 +176,7 @@ def right_cost(now: Yard, goal: Yard) -> str:
     return f"{are} misplaced, and methods 2 and 3 lift each once: none is shorter"
 
 
-def right_deadlock(now: Yard, goal: Yard) -> str:
+def right_deadlock(now: Yard, goal: Yard, lengths: Lengths = None) -> str:
     """All that the tool should print of a deadlock test, its lines unwrapped."""
     pairs = read(testing(now, goal)).pairs
     said = [f"deadlock: {named_slabs([slab for slab, _ in pairs], False)}", *ring_words(now, goal)] if pairs else []
@@ -184,21 +184,22 @@ def right_deadlock(now: Yard, goal: Yard) -> str:
         said = ["no deadlock" + ("" if reading.misplaced(now, goal) else ": nothing is misplaced")]
     cost = [right_cost(now, goal)] if reading.misplaced(now, goal) else []
     row = f"pairs: {', '.join(f'{slab} {d}' for slab, d in pairs) or 'none'}"
-    return "\n".join([*said, *cost, row, f"sheet: {sheet_line(now, goal)}"])
+    return "\n".join([*said, *cost, row, f"sheet: {sheet_line(now, goal, lengths)}"])
 
 
-def right_accepted(now: Yard, goal: Yard) -> str:
+def right_accepted(now: Yard, goal: Yard, lengths: Lengths = None) -> str:
     """What is said of an accepted sheet first."""
     piles = [counted(list(yard).count(0), "pile", "piles") for yard in (now, goal)]
-    return f"accepted: {counted(len(now), 'slab', 'slabs')}, {piles[0]} now and {piles[1]} in the goal"
+    long = "" if lengths is None else " with lengths"
+    return f"accepted: {counted(len(now), 'slab', 'slabs')}{long}, {piles[0]} now and {piles[1]} in the goal"
 
 
-def right_check(now: Yard, goal: Yard) -> str:
+def right_check(now: Yard, goal: Yard, lengths: Lengths = None) -> str:
     """All that the tool should print of an accepted sheet, its lines unwrapped."""
     astray, ring = reading.misplaced(now, goal), deadlocked(now, goal)
     some = f"{counted(len(astray), 'slab', 'slabs')} misplaced" + (f": {numbered(astray)}" if astray else "")
-    said = [right_accepted(now, goal), some + (f"; {ring}" if ring else "")]
-    return "\n".join([*said, f"sheet: {sheet_line(now, goal)}"])
+    said = [right_accepted(now, goal, lengths), some + (f"; {ring}" if ring else "")]
+    return "\n".join([*said, f"sheet: {sheet_line(now, goal, lengths)}"])
 
 
 def resting(support: int) -> str:
@@ -206,8 +207,11 @@ def resting(support: int) -> str:
     return f"on {support}" if support else "on the ground"
 
 
-def in_the_way(yard: Yard, slab: int, destination: int, verdict: int) -> str:
+def in_the_way(yard: Yard, slab: int, destination: int, verdict: int, lengths: Lengths = None) -> str:
     """What is in the way of a bad lift."""
+    if verdict == 6 and lengths is not None:
+        long, short = lengths[slab - 1], lengths[destination - 1]
+        return f"slab {slab} is {long} cm long, and slab {destination} {short} cm"
     if verdict == 1:
         return f"there is no slab {f'{destination} to rest on' if slab in reading.slabs(yard) else slab}"
     if verdict == 2:
@@ -219,9 +223,9 @@ def in_the_way(yard: Yard, slab: int, destination: int, verdict: int) -> str:
     return f"slab {list(yard).index(destination) + 1} rests on slab {destination}"
 
 
-def right_verdict(now: Yard, goal: Yard, pairs: Sequence[Pair]) -> str:
+def right_verdict(now: Yard, goal: Yard, pairs: Sequence[Pair], lengths: Lengths = None) -> str:
     """What is said of a list first: the verdict, and the lift or the slab that it is about."""
-    _, verdict, place = replayed(now, goal, pairs)
+    _, verdict, place = replayed(now, goal, pairs, lengths)
     if verdict == 0:
         return f"arrives: {counted(len(pairs), 'lift is', 'lifts are')} legal, and the end is the goal"
     yard = now
@@ -231,29 +235,30 @@ def right_verdict(now: Yard, goal: Yard, pairs: Sequence[Pair]) -> str:
         rests, shall = resting(yard[place - 1]), resting(goal[place - 1])
         return f"{VERDICTS[5]}: slab {place} rests {rests} and shall rest {shall}"
     slab, destination = pairs[place - 1]
-    way = in_the_way(yard, slab, destination, verdict)
+    way = in_the_way(yard, slab, destination, verdict, lengths)
     return f"lift {place}, {slab}→{destination}: {VERDICTS[verdict]}: {way}"
 
 
-def replayed(now: Yard, goal: Yard, pairs: Sequence[Pair]) -> tuple[int, int, int]:
+def replayed(now: Yard, goal: Yard, pairs: Sequence[Pair], lengths: Lengths = None) -> tuple[int, int, int]:
     """The reading's replay of some pairs."""
-    return reading.replay(now, goal, [number for pair in pairs for number in pair])
+    return reading.replay(now, goal, [number for pair in pairs for number in pair], lengths)
 
 
-def right_replay(now: Yard, goal: Yard, pairs: Sequence[Pair]) -> str:
+def right_replay(now: Yard, goal: Yard, pairs: Sequence[Pair], lengths: Lengths = None) -> str:
     """All that the tool should print of a replay, its lines unwrapped."""
-    _, verdict, place = replayed(now, goal, pairs)
+    _, verdict, place = replayed(now, goal, pairs, lengths)
     length = [right_length(now, goal, len(pairs))] if verdict == 0 else []
     rows = [f"verdict: {verdict}, place {place}", f"list: {list_line(pairs) or 'no lifts'}"]
-    return "\n".join([right_verdict(now, goal, pairs), *length, *rows, f"sheet: {sheet_line(now, goal)}"])
+    sheet = f"sheet: {sheet_line(now, goal, lengths)}"
+    return "\n".join([right_verdict(now, goal, pairs, lengths), *length, *rows, sheet])
 
 
 # ---- objects
 
 
-def begun(command: str, now: Yard, goal: Yard) -> Object:
+def begun(command: str, now: Yard, goal: Yard, lengths: Lengths = None) -> Object:
     """What every object has of an accepted sheet."""
-    return {"command": command, "sheet": sheet_line(now, goal), "name": "", "refusal": 0}
+    return {"command": command, "sheet": sheet_line(now, goal, lengths), "name": "", "refusal": 0}
 
 
 def ringed(now: Yard, goal: Yard) -> Object:
@@ -262,36 +267,37 @@ def ringed(now: Yard, goal: Yard) -> Object:
     return {"misplaced": reading.misplaced(now, goal), "deadlock": ring, "floor": reading.floor(now, goal)}
 
 
-def plan_object(method: int, now: Yard, goal: Yard) -> Object:
+def plan_object(method: int, now: Yard, goal: Yard, lengths: Lengths = None) -> Object:
     """The object of a plan."""
     (_, _, count, head), pairs = read(planning(method, now, goal))
     counts = {str(m): len(read(planning(m, now, goal)).pairs) for m in METHODS}
     numbers = {"method": method, "place": 0, "count": count, "head": head, "counts": counts}
     words = {"words": right_length(now, goal, count), "lifts": right_lifts(method, now, goal, pairs)}
-    return {**begun("plan", now, goal), **ringed(now, goal), **numbers, **words}
+    return {**begun("plan", now, goal, lengths), **ringed(now, goal), **numbers, **words}
 
 
-def deadlock_object(now: Yard, goal: Yard) -> Object:
+def deadlock_object(now: Yard, goal: Yard, lengths: Lengths = None) -> Object:
     """The object of a deadlock test."""
     ring, astray = deadlocked(now, goal), reading.misplaced(now, goal)
     words = f"deadlock: {ring}" if ring else "no deadlock" + ("" if astray else ": nothing is misplaced")
     numbers = {"place": 0, "count": len(read(testing(now, goal)).pairs)}
     said = {"words": words, "cost": right_cost(now, goal)}
-    return {**begun("deadlock", now, goal), **ringed(now, goal), **numbers, **said}
+    return {**begun("deadlock", now, goal, lengths), **ringed(now, goal), **numbers, **said}
 
 
-def check_object(now: Yard, goal: Yard) -> Object:
+def check_object(now: Yard, goal: Yard, lengths: Lengths = None) -> Object:
     """The object of an accepted sheet."""
-    numbers = {"place": 0, "slabs": len(now), "words": right_accepted(now, goal)}
-    return {**begun("check", now, goal), **ringed(now, goal), **numbers}
+    numbers = {"place": 0, "slabs": len(now), "words": right_accepted(now, goal, lengths)}
+    return {**begun("check", now, goal, lengths), **ringed(now, goal), **numbers}
 
 
-def replay_object(now: Yard, goal: Yard, pairs: Sequence[Pair]) -> Object:
+def replay_object(now: Yard, goal: Yard, pairs: Sequence[Pair], lengths: Lengths = None) -> Object:
     """The object of a replay."""
-    _, verdict, place = replayed(now, goal, pairs)
+    _, verdict, place = replayed(now, goal, pairs, lengths)
     numbers = {"verdict": verdict, "place": place, "count": len(pairs), "list": list_line(pairs)}
     length = right_length(now, goal, len(pairs)) if verdict == 0 else ""
-    return {**begun("replay", now, goal), **numbers, "words": right_verdict(now, goal, pairs), "length": length}
+    words = {"words": right_verdict(now, goal, pairs, lengths), "length": length}
+    return {**begun("replay", now, goal, lengths), **numbers, **words}
 
 
 # ---- training

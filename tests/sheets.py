@@ -216,6 +216,35 @@ def renumbered(rng: random.Random, now: Yard, goal: Yard) -> Sheet:
     return yards
 
 
+def fitting(rng: random.Random, lengths: Sequence[int]) -> list[int]:
+    """A random arrangement in which no slab overhangs: each comes, longest first, to the ground or on any pile."""
+    yard, tops = [0] * len(lengths), [0]
+    order = sorted(reading.slabs(lengths), key=lambda slab: (-lengths[slab - 1], rng.random()))
+    for slab in order:
+        support = rng.choice(tops)
+        yard[slab - 1] = support
+        if support:
+            tops.remove(support)
+        tops += [slab, *([0] if rng.random() < 0.2 else [])]
+    return yard
+
+
+def lowered(lengths: Sequence[int], *yards: Yard) -> list[int]:
+    """Lengths cut so that no slab overhangs in some arrangements."""
+    cut, before = list(lengths), []
+    while cut != before:
+        before = list(cut)
+        for slab, support in itertools.chain.from_iterable(enumerate(yard, 1) for yard in yards):
+            cut[slab - 1] = min(cut[slab - 1], cut[support - 1]) if support else cut[slab - 1]
+    return cut
+
+
+def ranks(n: int) -> list[tuple[int, ...]]:
+    """Every way in which n slabs can be shorter, equal or longer than each other, as lengths from 1 on."""
+    every = itertools.product(range(1, n + 1), repeat=n)
+    return [lengths for lengths in every if set(lengths) == set(range(1, len(set(lengths)) + 1))]
+
+
 def random_sheets() -> Iterator[Sheet]:
     """Random sheets of four to eight slabs, and small rings whose loops may be entered at any slab."""
     rng = random.Random(SEED)

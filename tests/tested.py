@@ -4,7 +4,7 @@ import subprocess
 from collections.abc import Iterable, Sequence
 from pathlib import Path
 
-from reading import Pair, Yard
+from reading import Lengths, Pair, Yard
 
 ROOT = Path(__file__).resolve().parent.parent
 
@@ -51,9 +51,10 @@ def counted(tests: Iterable[Test]) -> int:
     return 1 if failed or not passed else 0
 
 
-def sheet_line(now: Yard, goal: Yard) -> str:
+def sheet_line(now: Yard, goal: Yard, lengths: Lengths = None) -> str:
     """A sheet as it is typed."""
-    return f"{' '.join(map(str, now))} / {' '.join(map(str, goal))}".strip()
+    line = f"{' '.join(map(str, now))} / {' '.join(map(str, goal))}".strip()
+    return line if lengths is None else f"{line} / {' '.join(map(str, lengths))}".strip()
 
 
 def sheet_of(line: str) -> tuple[list[int], list[int]]:

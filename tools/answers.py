@@ -6,7 +6,7 @@ from typing import Any
 
 from lines import Lift, Sheet, all_shown, counted
 from rules import METHODS, MOST, QUESTIONS, TRAINING
-from steps import Pair, Step, deadlocked, length_in_words, lift_in_words, links, listed, reason, steps, told
+from steps import Pair, Step, deadlocked, length_in_words, lift_in_words, links, listed, long, reason, steps, told
 from steps import verdict_in_words
 from topjeska import Generator, Library
 
@@ -85,13 +85,13 @@ def replay(library: Library, sheet: Sheet, lifts: list[Lift]) -> Answer:
 
 
 def check(library: Library, sheet: Sheet) -> Answer:
-    """Questions 2 to 9, and what is misplaced."""
+    """Questions 2 to 9, 16 to 18 with lengths, and what is misplaced."""
     begun, said = asked("check", sheet), library.check(sheet)
     if said.refusal:
         return refused(begun, sheet, said.refusal, said.place)
     about = told(library, sheet)
     piles = [counted(yard.count(0), "pile", "piles") for yard in (sheet.now, sheet.goal)]
-    slabs = counted(len(sheet.now), "slab", "slabs")
+    slabs = counted(len(sheet.now), "slab", "slabs") + ("" if sheet.lengths is None else " with lengths")
     words = f"accepted: {slabs}, {piles[0]} now and {piles[1]} in the goal"
     ends = {"refusal": 0, "place": 0, "slabs": len(sheet.now), "misplaced": about.misplaced, "deadlock": about.ring}
     return {**begun, **ends, "floor": about.floor(), "words": words}
@@ -167,10 +167,15 @@ def about_place(method: int, sheet: Sheet, number: int, place: int) -> str:
         return f"the method is {method}; the methods are {', '.join(f'{k} ({name})' for k, name in METHODS.items())}"
     if number == 2:
         return f"the now list has {n:,} entries, {n - MOST:,} too many"
-    if not (4 <= number <= 9 and 1 <= place <= n):
+    if number == 16:
+        return f"{counted(len(sheet.lengths or []), 'length', 'lengths')} for {counted(n, 'slab', 'slabs')}"
+    if not (number in (*range(4, 10), 17, 18) and 1 <= place <= n):
         return ""
-    yard, where = (sheet.now, "now") if number < 7 else (sheet.goal, "in the goal")
+    yard, where = (sheet.now, "now") if number in (4, 5, 6, 17) else (sheet.goal, "in the goal")
     support = yard[place - 1]
+    if number in (17, 18):
+        who = f"slab {place}, the lowest that overhangs, is {long(sheet, place)} long"
+        return f"{who} and rests on slab {support} {where}, which is {long(sheet, support)} long"
     if number in (4, 7):
         return f"slab {place}, the lowest with a bad entry, rests on {support} {where}, and n is {n}"
     if number in (5, 8):

@@ -19,21 +19,31 @@ class Arrow(NamedTuple):
 
 
 class Measure(NamedTuple):
-    """The width of a slab and of the gap beside it, how many piles stand abreast, and the width of a cell."""
+    """The width of a pile and of the gap beside it, how many piles stand abreast, and the width of a cell.
+
+    And the least width of a slab, and how far a shorter slab stands in from both sides of its pile.
+    """
 
     wide: int
     gap: int
     abreast: int
     across: int
+    least: int
+    insets: dict[int, int]
 
 
 class Spot(NamedTuple):
-    """Where a slab is: its row of piles, its left and its upper edge, and whether it is clear."""
+    """Where a slab is: its row of piles, its pile's left edge, its upper edge, whether it is clear, and its inset."""
 
     row: int
     left: int
     top: int
     clear: bool
+    inset: int = 0
+
+    def edges(self, sizes: Measure) -> tuple[int, int]:
+        """The left and the right edge of the slab."""
+        return self.left + self.inset, self.left + sizes.wide - self.inset
 
 
 class Port(NamedTuple):
@@ -103,12 +113,12 @@ def ports(arrows: Sequence[Arrow], at: dict[int, Spot], sizes: Measure) -> dict[
 
 def port(spot: Spot, to_left: bool, share: float, sizes: Measure) -> Port:
     """A share of the way along a clear slab's upper edge, or through half the gap beside another slab."""
-    right, room = spot.left + sizes.wide, sizes.gap / 2 - 5
+    (left, right), room = spot.edges(sizes), sizes.gap / 2 - 5
     if spot.clear:
-        return Port(spot.left + share * sizes.wide, spot.top, None)
+        return Port(left + share * (right - left), spot.top, None)
     if to_left:
-        return Port(spot.left - 4 - (1 - share) * room, spot.top + HIGH / 2, spot.left)
-    return Port(right + 4 + share * room, spot.top + HIGH / 2, right)
+        return Port(spot.left - 4 - (1 - share) * room, spot.top + HIGH / 2, left)
+    return Port(spot.left + sizes.wide + 4 + share * room, spot.top + HIGH / 2, right)
 
 
 def arc(start: Port, end: Port, base: float, rise: float) -> str:
@@ -128,7 +138,7 @@ def arc(start: Port, end: Port, base: float, rise: float) -> str:
 
 def around(spot: Spot, end: Port) -> tuple[str, float]:
     """The arrow of a slab that is in its own way, and its height."""
-    left, top, y = spot.left, spot.top, end.y
+    left, top, y = spot.left + spot.inset, spot.top, end.y
     if end.edge is None:
         turn = path("M", left, top + 10, "C", left - 22, top + 6, end.x, top - 38, end.x, top - HEAD + 1)
         return turn + head(end.x, top, "down"), top - 22

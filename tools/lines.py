@@ -1,6 +1,7 @@
 """Sheets and lists of lifts as people type them, `2 0 / 0 1` and `1→0, 2→1`; what is wrong with a line, by its column.
 
-A sheet may have a name, `S2: 2 0 / 0 1`. What tools/sheet prints of a plan, in words or as JSON, is read back here.
+A sheet may have a name, `S2: 2 0 / 0 1`, and lengths, `2 0 / 0 0 / 250 300`. What tools/sheet prints of a plan, in
+words or as JSON, is read back here.
 """
 
 import itertools
@@ -28,9 +29,10 @@ ONCE = "standard input, -, can be read once"
 # How a sheet is typed, for the help of every tool.
 FORM = (
     "what each slab rests on now, a slash, what each shall rest on, 0 for the ground. '2 0 / 0 1' says that slab 1 "
-    "rests on slab 2 and slab 2 on the ground, and that slab 1 shall rest on the ground and slab 2 on slab 1. A name "
-    "may stand before it, 'S2: 2 0 / 0 1'. Or the name of a file with a sheet on each line (# begins a remark), or - "
-    "for such lines from standard input; both may hold what tools/sheet printed."
+    "rests on slab 2 and slab 2 on the ground, and that slab 1 shall rest on the ground and slab 2 on slab 1. Behind a "
+    "second slash the length of each slab in cm may stand, '2 0 / 0 0 / 250 300': then no slab may rest on a shorter "
+    "one. A name may stand before it, 'S2: 2 0 / 0 1'. Or the name of a file with a sheet on each line (# begins a "
+    "remark), or - for such lines from standard input; both may hold what tools/sheet printed."
 )
 
 Lift = tuple[int, int]
@@ -41,15 +43,17 @@ class Fault(Exception):
 
 
 class Sheet(NamedTuple):
-    """Two arrangements, and a name or none: entry i - 1 says what slab i rests on, 0 for the ground."""
+    """Two arrangements: entry i - 1 says what slab i rests on, 0 for the ground. A name or none, lengths or None."""
 
     now: list[int]
     goal: list[int]
     name: str = ""
+    lengths: list[int] | None = None
 
     def line(self) -> str:
         """The sheet as it is typed, its name left out."""
-        return f"{' '.join(map(str, self.now))} / {' '.join(map(str, self.goal))}".strip()
+        parts = [self.now, self.goal, *([] if self.lengths is None else [self.lengths])]
+        return " ".join(" / ".join(" ".join(map(str, part)) for part in parts).split())
 
 
 class Typed(NamedTuple):
@@ -89,11 +93,11 @@ def number_of(word: str, name: str, least: int = 0) -> int:
 
 
 def entries(line: str, first: int, last: int, name: str) -> list[int]:
-    """The entries of one arrangement, typed between two columns."""
+    """The entries of one arrangement, or the lengths, typed between two columns."""
     found: list[int] = []
     for word in WORD.finditer(line, first, last):
         if not is_number(word.group()):
-            entry = f"{name} entry {len(found) + 1}, '{word.group()}',"
+            entry = f"{name} {len(found) + 1}, '{word.group()}',"
             raise at(line, word.start(), f"{entry} is not a number from 0 to {TOP}")
         found.append(int(shortened(word.group())))
     return found
@@ -105,7 +109,10 @@ def counted(number: int, one: str, many: str) -> str:
 
 
 def sheet_of(line: str) -> Sheet:
-    """The sheet of a line: a name or none, the now entries, a slash, as many goal entries."""
+    """The sheet of a line: a name or none, the now entries, a slash, as many goal entries, a slash and lengths or none.
+
+    Whether there are as many lengths is asked by the library.
+    """
     line = " ".join(line.splitlines())
     named = NAME.match(line)
     start = named.end() if named else 0
@@ -113,15 +120,18 @@ def sheet_of(line: str) -> Sheet:
     if slash < 0:
         raise at(line, len(line), "there is no '/' between the now entries and the goal entries")
     second = line.find("/", slash + 1)
-    if second >= 0:
-        raise at(line, second, "a second '/': a sheet is now / goal")
-    now, goal = entries(line, start, slash, "now"), entries(line, slash + 1, len(line), "goal")
+    end = len(line) if second < 0 else second
+    third = line.find("/", end + 1)
+    if third >= 0:
+        raise at(line, third, "a third '/': a sheet is now / goal, or now / goal / lengths")
+    now, goal = entries(line, start, slash, "now entry"), entries(line, slash + 1, end, "goal entry")
+    lengths = None if second < 0 else entries(line, second + 1, len(line), "length")
     if len(goal) < len(now):
-        raise at(line, len(line), f"slab {len(goal) + 1} has no goal entry: {len(now)} now, {len(goal)} in the goal")
+        raise at(line, end, f"slab {len(goal) + 1} has no goal entry: {len(now)} now, {len(goal)} in the goal")
     if len(goal) > len(now):
-        extra = list(WORD.finditer(line, slash + 1))[len(now)]
+        extra = list(WORD.finditer(line, slash + 1, end))[len(now)]
         raise at(line, extra.start(), f"slab {len(now) + 1} has no now entry: {len(now)} now, {len(goal)} in the goal")
-    return Sheet(now, goal, name_of(named[1], line) if named else "")
+    return Sheet(now, goal, name_of(named[1], line) if named else "", lengths)
 
 
 def name_of(name: str, line: str) -> str:

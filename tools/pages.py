@@ -72,7 +72,7 @@ def at_the_start(test: Answer) -> str:
 def shown(library: Library, sheet: Sheet) -> Shown:
     """A sheet with all that the library says of it; a refused one with its refusal."""
     test = deadlock(library, sized(sheet))
-    begun = {"name": sheet.name, "line": sheet.line(), "now": sheet.now, "goal": sheet.goal}
+    begun = {"name": sheet.name, "line": sheet.line(), "now": sheet.now, "goal": sheet.goal, "lengths": sheet.lengths}
     said = {key: test[key] for key in ("refusal", "place", "words")}
     if test["refusal"]:
         return {**begun, **said}

@@ -23,6 +23,9 @@ SHEET_LINES = 8
 FEW, SHORT = 8, 64
 SHAPE = 2**0.5
 
+# So many times as wide as the shortest slab the longest is.
+WIDEST = 3
+
 STYLE = """
   text { font: 13px sans-serif; fill: #000 }
   .title, .caption, .strong { font-weight: bold }
@@ -60,6 +63,7 @@ LOOKS = {
     "between": "what stands above it is in the way",
     "wished": "goal",
 }
+LONGEST = "the longest, {} cm; the shortest, {} cm"
 ARROWS = {
     "waits": "waits for",
     "loop": "waits for, on the loop",
@@ -128,14 +132,30 @@ def piles(yard: Sequence[int]) -> Iterator[list[int]]:
             yield found
 
 
-def measure(cells: Sequence[Cell], gap: int) -> Measure:
-    """Sizes that suit all yards: their piles abreast in rows, and their captions."""
-    wide = 16 + 8 * max(1, len(str(max(len(cell.yard) for cell in cells))))
+def widest(least: int, lengths: Sequence[int]) -> int:
+    """How wide the longest slab is, where the shortest has the least width; all are so wide where none is longer."""
+    return WIDEST * least if len(set(lengths)) > 1 else least
+
+
+def insets(least: int, wide: int, lengths: Sequence[int]) -> dict[int, int]:
+    """How far each slab stands in: widths grow with lengths, from the least of the shortest to that of the longest."""
+    longest, shortest = max(lengths, default=0), min(lengths, default=0)
+    part = (wide - least) / 2 / max(1, longest - shortest)
+    return {slab: round(part * (longest - length)) for slab, length in enumerate(lengths, 1)}
+
+
+def measure(cells: Sequence[Cell], gap: int, lengths: Sequence[int]) -> Measure:
+    """Sizes that suit all yards: their slabs, their piles abreast in rows, and their captions."""
+    least = 16 + 8 * max(1, len(str(max(len(cell.yard) for cell in cells))))
+    wide = widest(least, lengths)
     columns = max((column + 1 for cell in cells for column in cell.columns.values()), default=1)
-    rows = math.ceil(columns / max(ABREAST if len(cells) > 2 else ABREAST_OF_TWO, math.isqrt(2 * columns)))
+    few, many = ABREAST if len(cells) > 2 else ABREAST_OF_TWO, 2 * columns
+    few, many = (number * (least + gap) // (wide + gap) for number in (few, many))
+    rows = math.ceil(columns / max(1, few, math.isqrt(many)))
     abreast = math.ceil(columns / rows)
     caption = max(len(cell.caption) + len(cell.how) + 3 for cell in cells) * LETTER
-    return Measure(wide, gap, abreast, max(2 * PAD + abreast * (wide + gap) - min(gap, PAD), int(caption) + 2 * PAD))
+    across = max(2 * PAD + abreast * (wide + gap) - min(gap, PAD), int(caption) + 2 * PAD)
+    return Measure(wide, gap, abreast, across, least, insets(least, wide, lengths))
 
 
 def spots(cell: Cell, sizes: Measure) -> dict[int, Spot]:
@@ -145,16 +165,16 @@ def spots(cell: Cell, sizes: Measure) -> dict[int, Spot]:
         row, place = divmod(cell.columns[pile[0]], sizes.abreast)
         for level, slab in enumerate(pile, 1):
             left = PAD + place * (sizes.wide + sizes.gap)
-            found[slab] = Spot(row, left, -level * HIGH, slab == pile[-1])
+            found[slab] = Spot(row, left, -level * HIGH, slab == pile[-1], sizes.insets.get(slab, 0))
     return found
 
 
 # ---- yards
 
 
-def slab_line(slab: int, spot: Spot, look: str, wide: int) -> str:
+def slab_line(slab: int, edges: tuple[int, int], y: int, look: str) -> str:
     """A slab: lifted it has a second border, between two of a ring its number has one."""
-    x, y = spot.left, spot.top
+    x, wide = edges[0], edges[1] - edges[0]
     mark = ""
     if "lifted" in look:
         mark = f'<rect class="mark" x="{x + 2.5}" y="{y + 2.5}" width="{wide - 5}" height="{HIGH - 5}"/>'
@@ -175,9 +195,9 @@ def row_part(cell: Cell, row: int, at: dict[int, Spot], sizes: Measure) -> Part:
         f'<g class="row" transform="translate(0,{up})">',
         f'<line class="ground" x1="3" y1="0" x2="{sizes.across - 3}" y2="0"/>',
         text(PAD, 13, beneath, "earth"),
-        *(slab_line(slab, spot, cell.looks[slab], sizes.wide) for slab, spot in here.items()),
+        *(slab_line(slab, spot.edges(sizes), spot.top, cell.looks[slab]) for slab, spot in here.items()),
         *(
-            text(spot.left + sizes.wide + 3, spot.top + 15, cell.labels[slab], "label")
+            text(spot.edges(sizes)[1] + 3, spot.top + 15, cell.labels[slab], "label")
             for slab, spot in here.items()
             if slab in cell.labels
         ),
@@ -221,10 +241,10 @@ def cell_lines(cell: Cell, part: Part, sizes: Measure, place: tuple[int, float],
 class Grid:
     """Yards side by side in rows."""
 
-    def __init__(self, cells: Sequence[Cell], sizes: Measure) -> None:
+    def __init__(self, cells: Sequence[Cell], gap: int, lengths: Sequence[int]) -> None:
         """Draws each yard."""
-        self.cells, self.sizes = cells, sizes
-        self.parts = [yard_part(cell, sizes) for cell in cells]
+        self.cells, self.lengths, self.sizes = cells, lengths, measure(cells, gap, lengths)
+        self.parts = [yard_part(cell, self.sizes) for cell in cells]
 
     def heights(self, columns: int) -> list[float]:
         """The height of each row of the grid."""
@@ -299,15 +319,18 @@ def parted(cell: Cell, sizes: Measure) -> bool:
 def slab_sign(look: str, wide: int) -> str:
     """A slab of one look, without a number."""
     whole = {"loop": "misplaced loop", "ring": "misplaced ring", "lifted": "right lifted", "between": "wished between"}
-    mark = slab_line(0, Spot(0, 0, 0, True), whole.get(look, look), wide)
+    whole["long"] = "wished long"
+    mark = slab_line(0, (0, wide), 0, whole.get(look, look))
     return mark.replace('data-slab="0"', f'data-sign="{look}"').replace(">0</text>", "></text>")
 
 
-def signs(cells: Sequence[Cell], sizes: Measure) -> Iterator[tuple[str, str, int]]:
+def signs(cells: Sequence[Cell], sizes: Measure, lengths: Sequence[int]) -> Iterator[tuple[str, str, int]]:
     """What each sign of the picture means: the sign, the words, and the sign's width; only signs that are used."""
     every = {frozenset(look.split()) for cell in cells for look in cell.looks.values()}
     used = {word for look in every for word in look if word != "misplaced" or not look & {"loop", "ring"}}
-    yield from ((slab_sign(look, sizes.wide), words, sizes.wide) for look, words in LOOKS.items() if look in used)
+    yield from ((slab_sign(look, sizes.least), words, sizes.least) for look, words in LOOKS.items() if look in used)
+    if any(sizes.insets.values()):
+        yield slab_sign("long", sizes.wide), LONGEST.format(max(lengths), min(lengths)), sizes.wide
     kinds = {arrow.kind for cell in cells for arrow in cell.arrows}
     for kind in (kind for kind in ARROWS if kind in kinds):
         line = path("M", 0, 15, "C", 0, 0, 26, 0, 26, 9) + head(26, 17, "down")
@@ -319,10 +342,10 @@ def signs(cells: Sequence[Cell], sizes: Measure) -> Iterator[tuple[str, str, int
         yield f'<g class="names" data-sign="names">{text(0, 15, "cₙ dₙ", "label")}</g>', "c and d of slab n", 30
 
 
-def legend(cells: Sequence[Cell], sizes: Measure, width: int) -> Part:
+def legend(grid: Grid, width: int) -> Part:
     """What the signs mean, in lines that fit."""
     lines, x, y = [], 0.0, 0
-    for sign, words, wide in signs(cells, sizes):
+    for sign, words, wide in signs(grid.cells, grid.sizes, grid.lengths):
         take = wide + 8 + len(words) * LETTER + 14
         if x and x + take > width:
             x, y = 0.0, y + HIGH + 8
@@ -335,7 +358,7 @@ def legend(cells: Sequence[Cell], sizes: Measure, width: int) -> Part:
 def around_grid(page: Page, grid: Grid, columns: int) -> tuple[int, Part, Part]:
     """The width of a picture with so many columns, what is above the grid, and what is below it."""
     width = max(LEAST, grid.width(columns))
-    foot = [notice(page, width), below(page, width), legend(grid.cells, grid.sizes, width)]
+    foot = [notice(page, width), below(page, width), legend(grid, width)]
     return width, heading(page, width), stacked(foot)
 
 
@@ -345,9 +368,9 @@ def off_shape(page: Page, grid: Grid, columns: int) -> float:
     return abs(math.log(width / (above.height + sum(grid.heights(columns)) + foot.height) / SHAPE))
 
 
-def svg(page: Page, cells: Sequence[Cell], gap: int) -> str:
-    """The whole picture; two yards stand side by side, more of them in a grid."""
-    grid = Grid(cells, measure(cells, gap))
+def svg(page: Page, cells: Sequence[Cell], gap: int, lengths: Sequence[int] = ()) -> str:
+    """The whole picture, slabs by their lengths; two yards stand side by side, more of them in a grid."""
+    grid = Grid(cells, gap, lengths)
     columns = min(range(min(2, len(cells)), len(cells) + 1), key=lambda count: off_shape(page, grid, count))
     across, above, foot = around_grid(page, grid, columns)
     whole = stacked([above, grid.part(columns), foot])

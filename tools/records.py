@@ -1,5 +1,6 @@
 #!/usr/bin/env python3
 """Packs and unpacks the records of document 01, "Records of the program"; tools and tests pack them nowhere else.
+HL and LN are those of document 02, Job 3, of a sheet with lengths.
 
     echo "HD 1 2, NW 0, GL 0" | tools/records.py pack         each line as a line of hexadecimal
     echo "4844 0001 0002 4E57" | tools/records.py unpack      and back: HD 1 2 | 4E57
@@ -19,7 +20,7 @@ from lines import Fault, is_number
 from rules import TOP
 
 # The marks with their field counts.
-FIELDS = {"HD": 2, "NW": 1, "GL": 1, "PL": 2, "LF": 2, "NO": 2}
+FIELDS = {"HD": 2, "HL": 2, "NW": 1, "GL": 1, "LN": 1, "PL": 2, "LF": 2, "NO": 2}
 
 
 class Record(NamedTuple):

@@ -31,11 +31,14 @@ class Question(NamedTuple):
 
 
 ALL = "all"
+WITH_LENGTHS = "with lengths"
 SLAB = "the lowest slab with a bad entry"
 SHARED = "the lowest slab that rests where a lower-numbered slab rests, the ground excepted"
 FLOATING = "the lowest slab that does not"
+OVERHANGS = "the lowest slab that overhangs"
 
-# Document 01, "Questions put to a sheet, in order"; 7 to 9 are "the same three for the goal".
+# Document 01, "Questions put to a sheet, in order"; 7 to 9 are "the same three for the goal". 16 to 18 are those of
+# document 02, Job 3, and are asked after 9.
 QUESTIONS = {
     1: Question("planning", "Is the method 1, 2 or 3?", ""),
     2: Question(ALL, f"Has the now list at most {MOST:,} entries?", ""),
@@ -51,9 +54,12 @@ QUESTIONS = {
     12: Question(
         "program",
         "Are all bytes of the record there, with its own mark, and nothing after the last record?",
-        "the records before it, or 2 × n + 1 for a tail",
+        "the records before it, or 2 × n + 1 for a tail, 3 × n + 1 with lengths",
     ),
     13: Question("planning", "Was there a slab to put down when no constructive lift existed?", ""),
+    16: Question(WITH_LENGTHS, "Are there as many lengths as slabs?", ""),
+    17: Question(WITH_LENGTHS, "Is each slab at most as long as the slab it rests on now?", OVERHANGS),
+    18: Question(WITH_LENGTHS, "Is each slab at most as long as the slab it rests on in the goal?", OVERHANGS),
 }
 
 # What training asks before 10; it is not put to sheets.
@@ -72,7 +78,7 @@ class Verdict(NamedTuple):
 
 BAD_LIFT = "the lift, counted from 1"
 
-# Document 01, "What is lent and written".
+# Document 01, "What is lent and written", and 6 of document 02, Job 3, which is tested after 4.
 VERDICTS = {
     0: Verdict("arrives", ""),
     1: Verdict("the slab is not in 1 to n or the destination is above n", BAD_LIFT),
@@ -80,4 +86,5 @@ VERDICTS = {
     3: Verdict("it already rests there", BAD_LIFT),
     4: Verdict("the destination is the slab itself or a slab that is not clear", BAD_LIFT),
     5: Verdict("all lifts are legal and the end differs from the goal", "the lowest slab whose support differs"),
+    6: Verdict("it is too long for its destination", BAD_LIFT),
 }

@@ -5,13 +5,12 @@ Nothing is planned here. Misplaced slabs, stalls and loops are read off the libr
 what is worked out beside them, the slabs c and d and who is in whose way, is held to the pairs of the deadlock test.
 """
 
-from array import array
 from collections.abc import Iterator, Sequence
 from typing import NamedTuple
 
 from lines import Fault, Lift, Sheet, counted
 from rules import METHODS, VERDICTS
-from topjeska import Library
+from topjeska import Lent, Library
 
 Pair = tuple[int, int]
 
@@ -78,24 +77,24 @@ def told(library: Library, sheet: Sheet) -> Told:
     return Told(sheet, plans[2].misplaced, misplaced, library.deadlock(sheet).pairs, counts)
 
 
-def frame(library: Library, yard: array, goal: array) -> Frame:
+def frame(library: Library, given: Lent) -> Frame:
     """A yard by the library's answers to it.
 
     Method 2 lifts the misplaced slabs and no others. It begins with a put-down where the yard is stalled and nowhere
     else, and a slab is put down exactly where it is lifted again. The deadlock test of a stalled yard is its loop.
     """
-    slabs = library.plan_of(2, yard, goal).slabs()
+    slabs = library.plan_of(2, given).slabs()
     stalled = len(slabs) > 0 and slabs.count(slabs[0]) > 1
-    return Frame(yard.tolist(), set(slabs), library.deadlock_of(yard, goal).pairs if stalled else [])
+    return Frame(given.now.tolist(), set(slabs), library.deadlock_of(given).pairs if stalled else [])
 
 
 def frames(library: Library, sheet: Sheet, lifts: Sequence[Lift]) -> Iterator[Frame]:
     """The yard before the first lift, and after each; the lifts must be legal."""
-    yard, goal = array("H", sheet.now), array("H", sheet.goal)
-    yield frame(library, yard, goal)
+    given = Lent.of(sheet)
+    yield frame(library, given)
     for slab, destination in lifts:
-        yard[slab - 1] = destination
-        yield frame(library, yard, goal)
+        given.now[slab - 1] = destination
+        yield frame(library, given)
 
 
 def steps(library: Library, sheet: Sheet, lifts: Sequence[Lift]) -> Iterator[Step]:
@@ -248,6 +247,11 @@ def apart(slab: int, leads: Sequence[int], loop: Sequence[Pair]) -> str:
     return how if how == WAITS else f"{'' if how.startswith('waits') else 'is '}{how}, {listed(leads)}"
 
 
+def long(sheet: Sheet, slab: int) -> str:
+    """The length of a slab of a sheet that has lengths."""
+    return f"{(sheet.lengths or [])[slab - 1]} cm"
+
+
 def verdict_in_words(sheet: Sheet, lifts: Sequence[Lift], verdict: int, place: int) -> str:
     """A verdict of replay with the lift or the slab it is about, and what lies in the way."""
     if verdict == 0:
@@ -267,5 +271,6 @@ def verdict_in_words(sheet: Sheet, lifts: Sequence[Lift], verdict: int, place: i
         4: lambda: f"slab {yard.index(destination) + 1} rests on slab {destination}"
         if destination != slab
         else f"slab {slab} cannot rest on itself",
+        6: lambda: f"slab {slab} is {long(sheet, slab)} long, and slab {destination} {long(sheet, destination)}",
     }
     return f"lift {place}, {slab}→{destination}: {VERDICTS[verdict].words}: {details[verdict]()}"

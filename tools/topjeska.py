@@ -22,6 +22,9 @@ ROOT = Path(__file__).resolve().parent.parent
 USUAL = ROOT / "target" / "staticlib"
 MADE = ROOT / "target" / "tools"
 
+# The bit of options that says that a sheet has lengths.
+LENGTHS = 1
+
 # The fields of each answer, in the header's order.
 FIELDS = {
     "check": ("refusal", "place"),
@@ -31,8 +34,8 @@ FIELDS = {
     "training": ("refusal", "place"),
 }
 
-# What the operations on a sheet take, and those of training, in the header's order; a list is lent as a pointer and a
-# length. Both of training have the same answer.
+# What the operations on a sheet take, these with options and lengths, and those of training, in the header's order; a
+# list is lent as a pointer and a length.
 Takes = dict[str, list[Any]]
 LENT = [ctypes.c_void_p, ctypes.c_size_t]
 ON_SHEETS: Takes = {
@@ -40,6 +43,12 @@ ON_SHEETS: Takes = {
     "plan": [ctypes.c_uint16, *LENT * 3],
     "deadlock": LENT * 3,
     "replay": LENT * 3,
+}
+WITH_OPTIONS: Takes = {
+    "check_with": [ctypes.c_uint16, *LENT * 3],
+    "plan_with": [ctypes.c_uint16, ctypes.c_uint16, *LENT * 4],
+    "deadlock_with": [ctypes.c_uint16, *LENT * 4],
+    "replay_with": [ctypes.c_uint16, *LENT * 4],
 }
 OF_TRAINING: Takes = {
     "training": [ctypes.c_size_t, ctypes.c_uint64, *LENT],
@@ -157,13 +166,18 @@ def current() -> Path:
 # ---- the operations
 
 
-def functions(path: Path, prefix: str, takes: Takes = ON_SHEETS) -> dict[str, Callable[..., Any]]:
-    """Operations of a shared object whose names begin with a prefix, with their types; by default those on a sheet."""
+def answer_of(operation: str) -> str:
+    """The name of an operation's answer, which those of one kind share."""
+    return operation.partition("_")[0]
+
+
+def functions(path: Path, prefix: str, takes: Takes) -> dict[str, Callable[..., Any]]:
+    """Operations of a shared object whose names begin with a prefix, with their types."""
     loaded = ctypes.CDLL(str(path))
     named = {}
     for operation, taken in takes.items():
         function = getattr(loaded, f"{prefix}_{operation}")
-        layout = [(field, ctypes.c_uint64) for field in FIELDS[operation.removesuffix("_draw")]]
+        layout = [(field, ctypes.c_uint64) for field in FIELDS[answer_of(operation)]]
         function.restype = type(operation, (ctypes.Structure,), {"_fields_": layout})
         function.argtypes = taken
         named[operation] = function
@@ -175,49 +189,66 @@ def lent(numbers: array) -> tuple[int, int]:
     return numbers.buffer_info()
 
 
+class Lent(NamedTuple):
+    """A sheet's lists as they are lent, with the options that say what it has."""
+
+    options: int
+    now: array
+    goal: array
+    lengths: array
+
+    @classmethod
+    def of(cls, sheet: Sheet) -> "Lent":
+        """The lists of a sheet."""
+        options = 0 if sheet.lengths is None else LENGTHS
+        return cls(options, *(array("H", numbers) for numbers in (sheet.now, sheet.goal, sheet.lengths or [])))
+
+    def lists(self) -> tuple[int, ...]:
+        """The lists as the library takes them."""
+        return *lent(self.now), *lent(self.goal), *lent(self.lengths)
+
+
 class Library:
     """The four operations on a sheet, and the two of training."""
 
     def __init__(self, path: Path) -> None:
         """Loads a shared object."""
         try:
-            self.called = functions(path, "topjeska", ON_SHEETS | OF_TRAINING)
+            self.called = functions(path, "topjeska", WITH_OPTIONS | OF_TRAINING)
         except (OSError, AttributeError) as error:
             raise Fault(f"the library {path} cannot be loaded: {error}") from error
 
     def check(self, sheet: Sheet) -> Check:
-        """Puts questions 2 to 9."""
-        now, goal = array("H", sheet.now), array("H", sheet.goal)
-        answer = self.called["check"](*lent(now), *lent(goal))
+        """Puts questions 2 to 9, and 16 to 18 where there are lengths."""
+        given = Lent.of(sheet)
+        answer = self.called["check_with"](given.options, *given.lists())
         return Check(answer.refusal, answer.place)
 
     def plan(self, method: int, sheet: Sheet) -> Plan:
         """The list of a method."""
-        now, goal = array("H", sheet.now), array("H", sheet.goal)
-        return self.plan_of(method, now, goal)
+        return self.plan_of(method, Lent.of(sheet))
 
-    def plan_of(self, method: int, now: array, goal: array) -> Plan:
+    def plan_of(self, method: int, given: Lent) -> Plan:
         """The list of a method for lists that are lent as they are."""
-        space = array("H", bytes(8 * len(now)))
-        answer = self.called["plan"](method, *lent(now), *lent(goal), *lent(space))
+        space = array("H", bytes(8 * len(given.now)))
+        answer = self.called["plan_with"](given.options, method, *given.lists(), *lent(space))
         return Plan(answer.refusal, answer.place, answer.misplaced, space[: 2 * answer.count])
 
     def deadlock(self, sheet: Sheet) -> Deadlock:
         """The deadlock test."""
-        return self.deadlock_of(array("H", sheet.now), array("H", sheet.goal))
+        return self.deadlock_of(Lent.of(sheet))
 
-    def deadlock_of(self, now: array, goal: array) -> Deadlock:
+    def deadlock_of(self, given: Lent) -> Deadlock:
         """The deadlock test of lists that are lent as they are."""
-        space = array("H", bytes(4 * len(now)))
-        answer = self.called["deadlock"](*lent(now), *lent(goal), *lent(space))
+        space = array("H", bytes(4 * len(given.now)))
+        answer = self.called["deadlock_with"](given.options, *given.lists(), *lent(space))
         numbers = space[: 2 * answer.count]
         return Deadlock(answer.refusal, answer.place, list(zip(numbers[::2], numbers[1::2])))
 
     def replay(self, sheet: Sheet, lifts: Sequence[Lift]) -> Replay:
         """The verdict on a list."""
-        now, goal = array("H", sheet.now), array("H", sheet.goal)
-        numbers = array("H", [number for lift in lifts for number in lift])
-        answer = self.called["replay"](*lent(now), *lent(goal), *lent(numbers))
+        given, numbers = Lent.of(sheet), array("H", [number for lift in lifts for number in lift])
+        answer = self.called["replay_with"](given.options, *given.lists(), *lent(numbers))
         return Replay(answer.refusal, answer.verdict, answer.place)
 
     def training(self, n: int, number: int) -> Training:

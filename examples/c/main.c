@@ -1,5 +1,5 @@
 /* Sheets of document 01 through the library: their lifts, their deadlocks, a replay and a refusal;
- * then a training sheet. */
+ * then a sheet with lengths, and a training sheet. */
 #include <inttypes.h>
 #include <stdio.h>
 #include <stdlib.h>
@@ -62,6 +62,38 @@ static void show(const sheet *s) {
         printf("%s does not arrive: verdict %" PRIu64 "\n", s->name, replay.verdict);
 }
 
+/* Prints what the library says of S4 with lengths, whose parts are given by their names: its list,
+ * a lift onto a shorter slab, and the refusal where slab 4 is too short. */
+static void show_lengths(const sheet *s4) {
+    const uint16_t lengths[] = {250, 300, 200, 300}, shorter[] = {250, 300, 200, 200};
+    const uint16_t onto_3[] = {1, 3};
+    uint16_t lifts[TOPJESKA_PLAN_SPACE(4)];
+    topjeska_sheet s = {
+        .options = TOPJESKA_LENGTHS,
+        .now = s4->now,
+        .now_len = s4->n,
+        .goal = s4->goal,
+        .goal_len = s4->n,
+        .lengths = lengths,
+        .lengths_len = s4->n,
+    };
+    topjeska_plan_answer plan =
+        topjeska_sheet_plan(s, TOPJESKA_METHOD_GN1, lifts, TOPJESKA_PLAN_SPACE(s4->n));
+    accepted(plan.refusal, plan.place);
+    printf("S4 with lengths lifts");
+    print_pairs(lifts, plan.count, "->");
+    topjeska_replay_answer replay = topjeska_sheet_replay(s, onto_3, 2);
+    accepted(replay.refusal, replay.place);
+    if (replay.verdict == TOPJESKA_VERDICT_TOO_LONG)
+        printf("S4 with lengths, 1->3: lift %" PRIu64 " is too long\n", replay.place);
+    else
+        printf("S4 with lengths, 1->3: verdict %" PRIu64 "\n", replay.verdict);
+    s.lengths = shorter;
+    topjeska_check_answer checked = topjeska_sheet_check(s);
+    printf("S4 with a shorter slab 4: refused by question %" PRIu64 " at %" PRIu64 "\n",
+           checked.refusal, checked.place);
+}
+
 /* Draws an arrangement of a training sheet, and prints it. */
 static void draw(topjeska_generator *generator, const sheet *s, const char *which, uint16_t *out) {
     topjeska_training_answer drawn = topjeska_training_draw(generator, s->n, out, s->n);
@@ -89,6 +121,8 @@ int main(void) {
     topjeska_plan_answer refused =
         topjeska_plan(TOPJESKA_METHOD_US, bad, 3, ground, 3, space, TOPJESKA_PLAN_SPACE(3));
     printf("2 1 5: refused by question %" PRIu64 " at %" PRIu64 "\n", refused.refusal, refused.place);
+
+    show_lengths(&sheets[1]);
 
     sheet trained = {"seed 7", MOST, {0}, {0}};
     topjeska_generator generator = {7};

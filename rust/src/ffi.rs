@@ -1,9 +1,13 @@
-//! `include/topjeska.h` in Rust: its constants, structs and functions, in its order and its words.
+//! `include/topjeska.h` in Rust: its constants, answers and functions, in its order and its words.
 //!
 //! An arrangement of n slabs is a list of n numbers: entry i - 1 says what slab i rests on, 0 for the
 //! ground. A list is lent as a pointer and a length. The pointer is to as many numbers as the length
 //! says, and may be NULL where the length is 0. A generator is lent as a pointer that is not NULL.
 //! What is written overlaps nothing else that is lent.
+//!
+//! A sheet may have lengths: a list of n numbers, entry i - 1 the length of slab i in cm. Then a slab
+//! must not rest on a shorter one, and a lift onto a shorter one is not legal; slabs of equal lengths
+//! may rest on each other, and the ground takes any.
 //!
 //! In every answer `refusal` is 0 where the call was answered, else one of `REFUSAL_...`; `place` is
 //! then its place, the counts are 0, and what is lent holds what it held. A refused replay gives no
@@ -31,6 +35,9 @@ pub const fn deadlock_space(n: usize) -> usize {
 /// The bytes of stack that every call stays below. No call allocates memory or keeps a pointer: the
 /// working lists lie on the stack, and are as long for a few slabs as for 4,000.
 pub const STACK_BYTES: usize = 163840;
+
+/// The sheet has lengths. Without this bit the lengths are not looked at.
+pub const LENGTHS: u16 = 1;
 
 /// US: puts down the misplaced clear slabs off the ground, then makes constructive lifts.
 pub const METHOD_US: u16 = 1;
@@ -78,7 +85,7 @@ pub const REFUSAL_SPACE: u64 = 10;
 pub const REFUSAL_ODD: u64 = 11;
 
 /// Are all bytes of the record there, with its own mark, and nothing after the last record? (program)
-/// Place: the records before it, or 2 * n + 1 for a tail.
+/// Place: the records before it, or 2 * n + 1 for a tail, 3 * n + 1 with lengths.
 pub const REFUSAL_RECORD: u64 = 12;
 
 /// Was there a slab to put down when no constructive lift existed? (planning)
@@ -89,6 +96,17 @@ pub const REFUSAL_TRAINING_SIZE: u64 = 14;
 
 /// Is the number below the count of arrangements, or the seed not 0? (training)
 pub const REFUSAL_TRAINING_NUMBER: u64 = 15;
+
+/// Are there as many lengths as slabs? (with lengths)
+pub const REFUSAL_LENGTHS_COUNT: u64 = 16;
+
+/// Is each slab at most as long as the slab it rests on now? (with lengths) Place: the lowest slab
+/// that overhangs.
+pub const REFUSAL_NOW_OVERHANG: u64 = 17;
+
+/// Is each slab at most as long as the slab it rests on in the goal? (with lengths) Place: the
+/// lowest slab that overhangs.
+pub const REFUSAL_GOAL_OVERHANG: u64 = 18;
 
 /// Arrives.
 pub const VERDICT_ARRIVES: u64 = 0;
@@ -109,10 +127,13 @@ pub const VERDICT_TAKEN: u64 = 4;
 /// differs.
 pub const VERDICT_ELSEWHERE: u64 = 5;
 
+/// It is too long for its destination. Place: the lift, counted from 1.
+pub const VERDICT_TOO_LONG: u64 = 6;
+
 /// The verdict of a refused replay: a number that is none.
 pub const NO_VERDICT: u64 = 65535;
 
-/// Whether two lists are a sheet.
+/// Whether lists are a sheet.
 #[repr(C)]
 #[derive(Clone, Copy, Debug, PartialEq, Eq)]
 pub struct CheckAnswer {
@@ -207,6 +228,61 @@ extern "C" {
         now_len: usize,
         goal: *const u16,
         goal_len: usize,
+        lifts: *const u16,
+        lifts_len: usize,
+    ) -> ReplayAnswer;
+
+    /// Puts questions 2 to 9 to a sheet, and with lengths 16, 17 and 18.
+    pub fn topjeska_check_with(
+        options: u16,
+        now: *const u16,
+        now_len: usize,
+        goal: *const u16,
+        goal_len: usize,
+        lengths: *const u16,
+        lengths_len: usize,
+    ) -> CheckAnswer;
+
+    /// As `topjeska_plan`. A sheet that is accepted with lengths has the same list with them and
+    /// without. With them all that is promised of a list compares it with lists that are legal with
+    /// lengths, and it is legal with lengths itself.
+    pub fn topjeska_plan_with(
+        options: u16,
+        method: u16,
+        now: *const u16,
+        now_len: usize,
+        goal: *const u16,
+        goal_len: usize,
+        lengths: *const u16,
+        lengths_len: usize,
+        space: *mut u16,
+        space_len: usize,
+    ) -> PlanAnswer;
+
+    /// As `topjeska_deadlock`. A sheet that is accepted with lengths has the same pairs with them and
+    /// without.
+    pub fn topjeska_deadlock_with(
+        options: u16,
+        now: *const u16,
+        now_len: usize,
+        goal: *const u16,
+        goal_len: usize,
+        lengths: *const u16,
+        lengths_len: usize,
+        space: *mut u16,
+        space_len: usize,
+    ) -> DeadlockAnswer;
+
+    /// As `topjeska_replay`. With lengths every lift is tested for `VERDICT_TOO_LONG`, after
+    /// `VERDICT_TAKEN`.
+    pub fn topjeska_replay_with(
+        options: u16,
+        now: *const u16,
+        now_len: usize,
+        goal: *const u16,
+        goal_len: usize,
+        lengths: *const u16,
+        lengths_len: usize,
         lifts: *const u16,
         lifts_len: usize,
     ) -> ReplayAnswer;

@@ -1,5 +1,6 @@
 //! Safe functions over libtopjeska.a, in the words of its header. An arrangement is a list that says of each
-//! slab what it rests on: slabs are numbered from 1, and 0 is the ground. A sheet is two, `now` and `goal`.
+//! slab what it rests on: slabs are numbered from 1, and 0 is the ground. A sheet is two, `now` and `goal`, and may
+//! have lengths: [`Sheet`] takes what a sheet has by name, the functions without it take the two.
 
 use std::fmt;
 
@@ -69,6 +70,10 @@ pub enum Verdict {
     Elsewhere {
         slab: u64,
     },
+    /// The slab is too long for its destination.
+    TooLong {
+        lift: u64,
+    },
 }
 
 /// Why a replay gives no verdict.
@@ -116,77 +121,189 @@ impl TryFrom<ffi::ReplayAnswer> for Verdict {
             ffi::VERDICT_IDLE => Ok(Verdict::Idle { lift }),
             ffi::VERDICT_TAKEN => Ok(Verdict::Taken { lift }),
             ffi::VERDICT_ELSEWHERE => Ok(Verdict::Elsewhere { slab: answer.place }),
+            ffi::VERDICT_TOO_LONG => Ok(Verdict::TooLong { lift }),
             other => Err(ReplayError::NoVerdict(other)),
         }
     }
 }
 
+/// A list in lent space.
+#[derive(Clone, Copy, Debug, PartialEq, Eq)]
+pub struct Planned<'s> {
+    /// The lifts, at the front of the space.
+    pub lifts: &'s [Lift],
+    /// As in [`Plan`].
+    pub misplaced: u64,
+}
+
+/// A sheet, its parts by their names; what is not named it does not have.
+///
+/// With lengths, in cm, a slab must not rest on a shorter one, and a lift onto a shorter one is not legal. A sheet that
+/// is accepted with lengths has the same lists with them and without, and what is promised of a list compares it with
+/// lists that are legal with lengths.
+///
+/// ```
+/// use topjeska::{ffi, Method, Refusal, Sheet};
+///
+/// // Slab 1, 250 cm long, goes from slab 2 onto slab 3.
+/// let (now, goal, lengths) = ([2, 0, 0], [3, 0, 0], [250, 300, 250]);
+/// let sheet = Sheet::new(&now, &goal).lengths(&lengths);
+/// let mut space = [[0; 2]; ffi::plan_space(3) / 2];
+/// assert_eq!(sheet.plan(Method::Gn1, &mut space)?.lifts, [[1, 3]]);
+///
+/// // A slab 3 of 200 cm is too short for it.
+/// let refused = Sheet::new(&now, &goal).lengths(&[250, 300, 200]).check();
+/// let (number, place) = (ffi::REFUSAL_GOAL_OVERHANG, 1);
+/// assert_eq!(refused, Err(Refusal { number, place }));
+/// # Ok::<(), Refusal>(())
+/// ```
+#[derive(Clone, Copy, Debug, PartialEq, Eq)]
+pub struct Sheet<'a> {
+    now: &'a [u16],
+    goal: &'a [u16],
+    lengths: Option<&'a [u16]>,
+}
+
+impl<'a> Sheet<'a> {
+    /// A sheet of two arrangements.
+    pub const fn new(now: &'a [u16], goal: &'a [u16]) -> Self {
+        Sheet {
+            now,
+            goal,
+            lengths: None,
+        }
+    }
+
+    /// The same with the length of each slab.
+    pub const fn lengths(self, lengths: &'a [u16]) -> Self {
+        Sheet {
+            lengths: Some(lengths),
+            ..self
+        }
+    }
+
+    /// The bits that say what it has, and its lengths or an empty list.
+    fn options(&self) -> (u16, &'a [u16]) {
+        match self.lengths {
+            Some(lengths) => (ffi::LENGTHS, lengths),
+            None => (0, &[]),
+        }
+    }
+
+    /// Puts questions 2 to 9, and with lengths 16, 17 and 18.
+    pub fn check(&self) -> Result<(), Refusal> {
+        let (options, lengths) = self.options();
+        // SAFETY: each pointer is a slice's own, with its length.
+        let answer = unsafe {
+            ffi::topjeska_check_with(
+                options,
+                self.now.as_ptr(),
+                self.now.len(),
+                self.goal.as_ptr(),
+                self.goal.len(),
+                lengths.as_ptr(),
+                lengths.len(),
+            )
+        };
+        accepted(answer.refusal, answer.place)
+    }
+
+    /// Writes the lifts of a method to the front of the space, which needs `ffi::plan_space(n) / 2` lifts for n slabs.
+    pub fn plan<'s>(&self, method: Method, space: &'s mut [Lift]) -> Result<Planned<'s>, Refusal> {
+        let (options, lengths) = self.options();
+        let numbers = space.as_flattened_mut();
+        // SAFETY: each pointer is a slice's own, with its length; nothing else uses the space.
+        let answer = unsafe {
+            ffi::topjeska_plan_with(
+                options,
+                method as u16,
+                self.now.as_ptr(),
+                self.now.len(),
+                self.goal.as_ptr(),
+                self.goal.len(),
+                lengths.as_ptr(),
+                lengths.len(),
+                numbers.as_mut_ptr(),
+                numbers.len(),
+            )
+        };
+        accepted(answer.refusal, answer.place)?;
+        Ok(Planned {
+            lifts: &space[..answer.count as usize],
+            misplaced: answer.misplaced,
+        })
+    }
+
+    /// Writes the deadlocked slabs to the front of the space, each with the slab through which the next one is in its
+    /// way; none where there is no deadlock. The space needs `ffi::deadlock_space(n) / 2` pairs for n slabs.
+    pub fn deadlock<'s>(&self, space: &'s mut [[u16; 2]]) -> Result<&'s [[u16; 2]], Refusal> {
+        let (options, lengths) = self.options();
+        let numbers = space.as_flattened_mut();
+        // SAFETY: each pointer is a slice's own, with its length; nothing else uses the space.
+        let answer = unsafe {
+            ffi::topjeska_deadlock_with(
+                options,
+                self.now.as_ptr(),
+                self.now.len(),
+                self.goal.as_ptr(),
+                self.goal.len(),
+                lengths.as_ptr(),
+                lengths.len(),
+                numbers.as_mut_ptr(),
+                numbers.len(),
+            )
+        };
+        accepted(answer.refusal, answer.place)?;
+        Ok(&space[..answer.count as usize])
+    }
+
+    /// Follows a list of lifts.
+    pub fn replay(&self, lifts: &[Lift]) -> Result<Verdict, ReplayError> {
+        let (options, lengths) = self.options();
+        let numbers = lifts.as_flattened();
+        // SAFETY: each pointer is a slice's own, with its length.
+        let answer = unsafe {
+            ffi::topjeska_replay_with(
+                options,
+                self.now.as_ptr(),
+                self.now.len(),
+                self.goal.as_ptr(),
+                self.goal.len(),
+                lengths.as_ptr(),
+                lengths.len(),
+                numbers.as_ptr(),
+                numbers.len(),
+            )
+        };
+        answer.try_into()
+    }
+}
+
 /// Puts questions 2 to 9 to two lists.
 pub fn check(now: &[u16], goal: &[u16]) -> Result<(), Refusal> {
-    // SAFETY: each pointer is a slice's own, with its length.
-    let answer = unsafe { ffi::topjeska_check(now.as_ptr(), now.len(), goal.as_ptr(), goal.len()) };
-    accepted(answer.refusal, answer.place)
+    Sheet::new(now, goal).check()
 }
 
 /// The lifts of a method.
 pub fn plan(method: Method, now: &[u16], goal: &[u16]) -> Result<Plan, Refusal> {
     let mut lifts = vec![[0; 2]; ffi::plan_space(slabs(now)) / 2];
-    let space = lifts.as_flattened_mut();
-    // SAFETY: each pointer is a slice's own, with its length; nothing else uses the space.
-    let answer = unsafe {
-        ffi::topjeska_plan(
-            method as u16,
-            now.as_ptr(),
-            now.len(),
-            goal.as_ptr(),
-            goal.len(),
-            space.as_mut_ptr(),
-            space.len(),
-        )
-    };
-    accepted(answer.refusal, answer.place)?;
-    lifts.truncate(answer.count as usize);
-    Ok(Plan {
-        lifts,
-        misplaced: answer.misplaced,
-    })
+    let made = Sheet::new(now, goal).plan(method, &mut lifts)?;
+    let (count, misplaced) = (made.lifts.len(), made.misplaced);
+    lifts.truncate(count);
+    Ok(Plan { lifts, misplaced })
 }
 
 /// The deadlocked slabs, each with the slab through which the next one is in its way; empty where there is no deadlock.
 pub fn deadlock(now: &[u16], goal: &[u16]) -> Result<Vec<[u16; 2]>, Refusal> {
     let mut pairs = vec![[0; 2]; ffi::deadlock_space(slabs(now)) / 2];
-    let space = pairs.as_flattened_mut();
-    // SAFETY: each pointer is a slice's own, with its length; nothing else uses the space.
-    let answer = unsafe {
-        ffi::topjeska_deadlock(
-            now.as_ptr(),
-            now.len(),
-            goal.as_ptr(),
-            goal.len(),
-            space.as_mut_ptr(),
-            space.len(),
-        )
-    };
-    accepted(answer.refusal, answer.place)?;
-    pairs.truncate(answer.count as usize);
+    let count = Sheet::new(now, goal).deadlock(&mut pairs)?.len();
+    pairs.truncate(count);
     Ok(pairs)
 }
 
 /// Follows a list of lifts.
 pub fn replay(now: &[u16], goal: &[u16], lifts: &[Lift]) -> Result<Verdict, ReplayError> {
-    let numbers = lifts.as_flattened();
-    // SAFETY: each pointer is a slice's own, with its length.
-    let answer = unsafe {
-        ffi::topjeska_replay(
-            now.as_ptr(),
-            now.len(),
-            goal.as_ptr(),
-            goal.len(),
-            numbers.as_ptr(),
-            numbers.len(),
-        )
-    };
-    answer.try_into()
+    Sheet::new(now, goal).replay(lifts)
 }
 
 /// Writes the arrangement of n slabs that has the number r to the front of a list. Each number below the count of
@@ -303,18 +420,19 @@ mod tests {
         assert_eq!(told(0, 3), Ok(Verdict::Idle { lift: 7 }));
         assert_eq!(told(0, 4), Ok(Verdict::Taken { lift: 7 }));
         assert_eq!(told(0, 5), Ok(Verdict::Elsewhere { slab: 7 }));
+        assert_eq!(told(0, 6), Ok(Verdict::TooLong { lift: 7 }));
     }
 
     #[test]
     fn another_number_is_an_error() {
-        for number in (6..=ffi::NO_VERDICT + 1).chain([1 << 32, u64::MAX]) {
+        for number in (7..=ffi::NO_VERDICT + 1).chain([1 << 32, u64::MAX]) {
             assert_eq!(told(0, number), Err(ReplayError::NoVerdict(number)));
         }
     }
 
     #[test]
     fn a_refusal_is_an_error_whatever_its_verdict() {
-        for verdict in (0..=6).chain([ffi::NO_VERDICT]) {
+        for verdict in (0..=7).chain([ffi::NO_VERDICT]) {
             let refused = ReplayError::Refused(refusal(11, 7));
             assert_eq!(told(11, verdict), Err(refused));
         }
@@ -334,7 +452,7 @@ mod tests {
         let refused = ReplayError::from(refusal(4, 3));
         let source = refused.source().and_then(|source| source.downcast_ref());
         assert_eq!(source, Some(&refusal(4, 3)));
-        assert!(ReplayError::NoVerdict(6).source().is_none());
+        assert!(ReplayError::NoVerdict(7).source().is_none());
         assert!(refusal(4, 3).source().is_none());
     }
 
@@ -403,6 +521,74 @@ mod tests {
             place: 3,
         };
         assert_eq!(answer, expected);
+    }
+
+    /// All of a sheet with lengths answer by one refusal, and keep the space.
+    fn sheet_refuses(sheet: Sheet, refusal: Refusal) {
+        let mut space = [[9; 2]; 8];
+        assert_eq!(sheet.check(), Err(refusal));
+        for method in METHODS {
+            assert_eq!(sheet.plan(method, &mut space), Err(refusal));
+        }
+        assert_eq!(sheet.deadlock(&mut space), Err(refusal));
+        assert_eq!(sheet.replay(&[[1, 0]]), Err(ReplayError::Refused(refusal)));
+        assert_eq!(space, [[9; 2]; 8]);
+    }
+
+    #[test]
+    fn lengths_are_asked_after_the_arrangements() {
+        let (count, now, goal) = (
+            ffi::REFUSAL_LENGTHS_COUNT,
+            ffi::REFUSAL_NOW_OVERHANG,
+            ffi::REFUSAL_GOAL_OVERHANG,
+        );
+        let sheet = Sheet::new(&[2, 0], &[0, 1]);
+        sheet_refuses(sheet.lengths(&[]), refusal(count, 0));
+        sheet_refuses(sheet.lengths(&[250, 250, 250]), refusal(count, 0));
+        sheet_refuses(sheet.lengths(&[300, 250]), refusal(now, 1));
+        sheet_refuses(sheet.lengths(&[250, 300]), refusal(goal, 2));
+        assert_eq!(sheet.lengths(&[250, 250]).check(), Ok(()));
+        let bad = Sheet::new(&[2, 1, 5], &[0, 0, 0]).lengths(&[]);
+        sheet_refuses(bad, refusal(ffi::REFUSAL_NOW_ENTRY, 3));
+        // No lengths of no slabs are lengths too.
+        assert_eq!(Sheet::new(&[], &[]).lengths(&[]).check(), Ok(()));
+        sheet_refuses(Sheet::new(&[], &[]).lengths(&[250]), refusal(count, 0));
+    }
+
+    #[test]
+    fn lengths_change_no_list() {
+        // S4, its feet longer than what is lifted.
+        let (now, goal) = (&[2, 0, 4, 0], &[4, 0, 2, 0]);
+        let (three, pairs) = ([[1, 0], [3, 2], [1, 4]], [[1, 4], [3, 2]]);
+        let without = Sheet::new(now, goal);
+        for sheet in [without, without.lengths(&[250, 300, 250, 300])] {
+            let mut space = [[9; 2]; 8];
+            let made = sheet.plan(Method::Gn1, &mut space);
+            let (lifts, misplaced) = (three.as_slice(), 2);
+            assert_eq!(made, Ok(Planned { lifts, misplaced }));
+            assert_eq!(space[3..], [[9; 2]; 5]);
+            assert_eq!(sheet.replay(&three), Ok(Verdict::Arrives));
+            let mut space = [[9; 2]; 4];
+            assert_eq!(sheet.deadlock(&mut space), Ok(pairs.as_slice()));
+            assert_eq!(space[2..], [[9; 2]; 2]);
+            let short = refusal(ffi::REFUSAL_SPACE, 0);
+            assert_eq!(sheet.plan(Method::Gn1, &mut [[9; 2]; 7]), Err(short));
+            assert_eq!(sheet.deadlock(&mut [[9; 2]; 3]), Err(short));
+        }
+    }
+
+    #[test]
+    fn a_lift_onto_a_shorter_slab_is_too_long() {
+        let ground = [0; 3];
+        let without = Sheet::new(&ground, &ground);
+        let with = without.lengths(&[250, 300, 250]);
+        // Slab 2 onto 1; then onto 1 under 3, which is taken first.
+        let verdicts = [with, without].map(|sheet| sheet.replay(&[[2, 1]]));
+        let (long, elsewhere) = (Verdict::TooLong { lift: 1 }, Verdict::Elsewhere { slab: 2 });
+        assert_eq!(verdicts, [Ok(long), Ok(elsewhere)]);
+        let taken = Verdict::Taken { lift: 2 };
+        assert_eq!(with.replay(&[[3, 1], [2, 1]]), Ok(taken));
+        assert_eq!(with.replay(&[[1, 3], [1, 2], [1, 0]]), Ok(Verdict::Arrives));
     }
 
     #[test]

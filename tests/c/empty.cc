@@ -4,7 +4,7 @@
 #include "expect.h"
 
 int main() {
-    std::vector<uint16_t> now, goal, space, lifts;
+    std::vector<uint16_t> now, goal, space, lifts, lengths;
     check_is("check", topjeska_check(now.data(), now.size(), goal.data(), goal.size()), 0, 0);
     for (uint16_t method = 1; method <= 3; method++)
         plan_is("plan",
@@ -26,6 +26,19 @@ int main() {
     training_is("training without a list", topjeska_training(1, 0, space.data(), space.size()), 10,
                 0);
 
+    topjeska_sheet sheet = {};
+    for (uint16_t options = 0; options <= TOPJESKA_LENGTHS; options++) {
+        sheet.options = options;
+        sheet.lengths = lengths.data();
+        check_is("check of a sheet", topjeska_sheet_check(sheet), 0, 0);
+        plan_is("plan of a sheet", topjeska_sheet_plan(sheet, 2, space.data(), space.size()), 0, 0,
+                0, 0);
+        deadlock_is("deadlock of a sheet",
+                    topjeska_sheet_deadlock(sheet, space.data(), space.size()), 0, 0, 0);
+        replay_is("replay of a sheet", topjeska_sheet_replay(sheet, lifts.data(), lifts.size()), 0,
+                  0, 0);
+    }
+
     goal.push_back(0);
     check_is("check of unequal lists",
              topjeska_check(now.data(), now.size(), goal.data(), goal.size()), 3, 0);
@@ -38,6 +51,10 @@ int main() {
               topjeska_replay(now.data(), now.size(), goal.data(), goal.size(), lifts.data(),
                               lifts.size()),
               0, 0, 0);
+    sheet.now = now.data();
+    sheet.goal = goal.data();
+    sheet.now_len = sheet.goal_len = 1;
+    check_is("check of a sheet without its lengths", topjeska_sheet_check(sheet), 16, 0);
     space = {7, 7, 7, 7};
     const uint16_t held[] = {7, 7, 7, 7};
     plan_is("plan of a slab in position",

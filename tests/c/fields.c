@@ -15,6 +15,10 @@ static const uint16_t s4_now[] = {2, 0, 4, 0}, s4_goal[] = {4, 0, 2, 0};
 static const uint16_t six_now[] = {3, 0, 4, 0, 2, 1}, six_goal[] = {2, 0, 1, 0, 4, 5};
 /* "4,000 entries pass question 2, 4,001 do not." All on the ground. */
 static const uint16_t many[TOPJESKA_MOST_SLABS + 1];
+/* Lengths of S6: those that fit; of a slab 1 that overhangs now and in the goal; of a slab 3 that
+ * is too short for slab 2, which rests on it now alone. And of S4, with longer feet. */
+static const uint16_t s6_long[] = {200, 250, 300}, s6_over[] = {300, 250, 300};
+static const uint16_t s6_short[] = {200, 250, 200}, s4_long[] = {250, 300, 250, 300};
 
 static void checks(void) {
     const size_t most = TOPJESKA_MOST_SLABS;
@@ -109,6 +113,164 @@ static void replays(void) {
               TOPJESKA_VERDICT_IDLE, 2);
 }
 
+/* Options with the bit of lengths alone, with every bit, with every other bit, and with none. */
+enum { ALONE = TOPJESKA_LENGTHS, EVERY = 0xFFFF, OTHERS = EVERY & ~TOPJESKA_LENGTHS, NONE = 0 };
+
+static void checks_with(void) {
+    check_is("check of S6 with lengths",
+             topjeska_check_with(ALONE, s6_now, 3, s6_goal, 3, s6_long, 3), 0, 0);
+    check_is("check of a length less",
+             topjeska_check_with(ALONE, s6_now, 3, s6_goal, 3, s6_long, 2),
+             TOPJESKA_REFUSAL_LENGTHS_COUNT, 0);
+    check_is("check of an overhang now",
+             topjeska_check_with(ALONE, s6_now, 3, s6_goal, 3, s6_short, 3),
+             TOPJESKA_REFUSAL_NOW_OVERHANG, 2);
+    check_is("check of an overhang in the goal",
+             topjeska_check_with(ALONE, s6_goal, 3, s6_now, 3, s6_short, 3),
+             TOPJESKA_REFUSAL_GOAL_OVERHANG, 2);
+    check_is("check of both overhangs",
+             topjeska_check_with(EVERY, s6_now, 3, s6_goal, 3, s6_over, 3),
+             TOPJESKA_REFUSAL_NOW_OVERHANG, 1);
+    check_is("check of a floating goal and no lengths",
+             topjeska_check_with(ALONE, ground, 1, floating, 1, NULL, 0),
+             TOPJESKA_REFUSAL_GOAL_FLOATING, 1);
+    check_is("check without lengths",
+             topjeska_check_with(NONE, s6_now, 3, s6_goal, 3, s6_short, 2), 0, 0);
+    check_is("check with other options",
+             topjeska_check_with(OTHERS, s6_now, 3, s6_goal, 3, s6_short, 3), 0, 0);
+}
+
+static void plans_with(void) {
+    uint16_t space[16] = {0};
+    const uint16_t untouched[16] = {0}, lifts[] = {1, 0, 3, 2, 1, 4};
+    const uint16_t us = TOPJESKA_METHOD_US, gn1 = TOPJESKA_METHOD_GN1;
+    plan_is("plan of an overhang",
+            topjeska_plan_with(ALONE, gn1, s6_now, 3, s6_goal, 3, s6_short, 3, space, 11),
+            TOPJESKA_REFUSAL_NOW_OVERHANG, 2, 0, 0);
+    plan_is("plan in a number less, with lengths",
+            topjeska_plan_with(ALONE, gn1, s4_now, 4, s4_goal, 4, s4_long, 4, space, 15),
+            TOPJESKA_REFUSAL_SPACE, 0, 0, 0);
+    space_is("space of refused plans with lengths", space, untouched, 16);
+    plan_is("plan of S4 by 2 with lengths",
+            topjeska_plan_with(ALONE, gn1, s4_now, 4, s4_goal, 4, s4_long, 4, space, 16), 0, 0, 3,
+            2);
+    space_is("lifts of S4 with lengths", space, lifts, 6);
+    space_is("space behind them", space + 6, untouched, 10);
+    plan_is("plan of S4 by 1 with lengths",
+            topjeska_plan_with(EVERY, us, s4_now, 4, s4_goal, 4, s4_long, 4, space, 16), 0, 0, 4,
+            2);
+    plan_is("plan with other options",
+            topjeska_plan_with(OTHERS, us, s6_now, 3, s6_goal, 3, s6_short, 3, space, 12), 0, 0, 3,
+            2);
+}
+
+static void deadlocks_with(void) {
+    uint16_t space[8] = {0};
+    const uint16_t untouched[8] = {0}, pairs[] = {1, 4, 3, 2};
+    deadlock_is("deadlock of an overhang",
+                topjeska_deadlock_with(ALONE, s6_goal, 3, s6_now, 3, s6_short, 3, space, 5),
+                TOPJESKA_REFUSAL_GOAL_OVERHANG, 2, 0);
+    deadlock_is("deadlock in a number less, with lengths",
+                topjeska_deadlock_with(ALONE, s4_now, 4, s4_goal, 4, s4_long, 4, space, 7),
+                TOPJESKA_REFUSAL_SPACE, 0, 0);
+    space_is("space of refused tests with lengths", space, untouched, 8);
+    deadlock_is("deadlock of S4 with lengths",
+                topjeska_deadlock_with(ALONE, s4_now, 4, s4_goal, 4, s4_long, 4, space, 8), 0, 0,
+                2);
+    space_is("pairs of S4 with lengths", space, pairs, 4);
+    space_is("space behind them", space + 4, untouched, 4);
+    deadlock_is("deadlock with other options",
+                topjeska_deadlock_with(OTHERS, s6_now, 3, s6_goal, 3, s6_short, 3, space, 6), 0, 0,
+                1);
+}
+
+/* After 1→0 slab 2 goes onto slab 1, which is shorter; or slab 3 does, from under slab 2. */
+static const uint16_t over[] = {1, 0, 2, 1}, under[] = {1, 0, 3, 1};
+
+static void replays_with(void) {
+    /* With slab 3 on slab 1, slab 1 is taken before slab 2 is too long for it. */
+    const uint16_t taken[] = {3, 1, 2, 1};
+    replay_is("replay of an overhang",
+              topjeska_replay_with(ALONE, s6_now, 3, s6_goal, 3, s6_short, 3, s6_lifts, 5),
+              TOPJESKA_REFUSAL_NOW_OVERHANG, TOPJESKA_NO_VERDICT, 2);
+    replay_is("replay of an odd list with lengths",
+              topjeska_replay_with(ALONE, s6_now, 3, s6_goal, 3, s6_long, 3, s6_lifts, 5),
+              TOPJESKA_REFUSAL_ODD, TOPJESKA_NO_VERDICT, 0);
+    replay_is("replay of S6 with lengths",
+              topjeska_replay_with(ALONE, s6_now, 3, s6_goal, 3, s6_long, 3, s6_lifts, 6), 0,
+              TOPJESKA_VERDICT_ARRIVES, 0);
+    replay_is("replay onto a shorter slab",
+              topjeska_replay_with(EVERY, s6_now, 3, s6_goal, 3, s6_long, 3, over, 4), 0,
+              TOPJESKA_VERDICT_TOO_LONG, 2);
+    replay_is("replay from beneath onto a shorter slab",
+              topjeska_replay_with(ALONE, s6_now, 3, s6_goal, 3, s6_long, 3, under, 4), 0,
+              TOPJESKA_VERDICT_COVERED, 2);
+    replay_is("replay onto a shorter slab that is taken",
+              topjeska_replay_with(ALONE, ground, 3, ground, 3, s6_short, 3, taken, 4), 0,
+              TOPJESKA_VERDICT_TAKEN, 2);
+    replay_is("replay onto a shorter slab without lengths",
+              topjeska_replay_with(NONE, s6_now, 3, s6_goal, 3, s6_long, 3, over, 4), 0,
+              TOPJESKA_VERDICT_ELSEWHERE, 1);
+    replay_is("replay with other options",
+              topjeska_replay_with(OTHERS, s6_now, 3, s6_goal, 3, s6_short, 3, s6_lifts, 6), 0,
+              TOPJESKA_VERDICT_ARRIVES, 0);
+}
+
+/* All that take a sheet by the names of its parts refuse one, with place 0. */
+static void sheet_is_refused(const char *name, topjeska_sheet sheet, uint64_t refusal) {
+    uint16_t space[16] = {0};
+    check_is(name, topjeska_sheet_check(sheet), refusal, 0);
+    plan_is(name, topjeska_sheet_plan(sheet, TOPJESKA_METHOD_GN1, space, 16), refusal, 0, 0, 0);
+    deadlock_is(name, topjeska_sheet_deadlock(sheet, space, 16), refusal, 0, 0);
+    replay_is(name, topjeska_sheet_replay(sheet, over, 4), refusal, TOPJESKA_NO_VERDICT, 0);
+}
+
+/* Sheets by the names of their parts: S6 with a slab that is too short, S6 without lengths, S4. And
+ * two on which each count of entries is told from the others, the first also the options. */
+static void sheets(void) {
+    uint16_t space[16] = {0};
+    const uint16_t lifts[] = {1, 0, 3, 2, 1, 4}, pairs[] = {1, 4, 3, 2};
+    topjeska_sheet s6 = {.now = s6_now, .now_len = 3, .goal = s6_goal, .goal_len = 3};
+    const topjeska_sheet s4 = {.options = TOPJESKA_LENGTHS,
+                               .now = s4_now,
+                               .now_len = 4,
+                               .goal = s4_goal,
+                               .goal_len = 4,
+                               .lengths = s4_long,
+                               .lengths_len = 4};
+    topjeska_sheet fewer = s4;
+    const topjeska_sheet more = {
+        .now = many, .now_len = TOPJESKA_MOST_SLABS + 1, .goal = many, .goal_len = 4};
+    check_is("sheet S6", topjeska_sheet_check(s6), 0, 0);
+    replay_is("replay of sheet S6", topjeska_sheet_replay(s6, over, 4), 0,
+              TOPJESKA_VERDICT_ELSEWHERE, 1);
+    s6.options = TOPJESKA_LENGTHS;
+    check_is("sheet S6 and no lengths", topjeska_sheet_check(s6), TOPJESKA_REFUSAL_LENGTHS_COUNT,
+             0);
+    s6.lengths = s6_short;
+    s6.lengths_len = 3;
+    check_is("sheet S6 with an overhang", topjeska_sheet_check(s6), TOPJESKA_REFUSAL_NOW_OVERHANG,
+             2);
+    s6.lengths = s6_long;
+    replay_is("replay of sheet S6 onto a shorter slab", topjeska_sheet_replay(s6, over, 4), 0,
+              TOPJESKA_VERDICT_TOO_LONG, 2);
+    replay_is("replay of sheet S6 with lengths", topjeska_sheet_replay(s6, s6_lifts, 6), 0,
+              TOPJESKA_VERDICT_ARRIVES, 0);
+    plan_is("plan of sheet S4", topjeska_sheet_plan(s4, TOPJESKA_METHOD_GN1, space, 16), 0, 0, 3,
+            2);
+    space_is("lifts of sheet S4", space, lifts, 6);
+    plan_is("plan of sheet S4 in a number less",
+            topjeska_sheet_plan(s4, TOPJESKA_METHOD_GN1, space, 15), TOPJESKA_REFUSAL_SPACE, 0, 0,
+            0);
+    deadlock_is("deadlock of sheet S4", topjeska_sheet_deadlock(s4, space, 8), 0, 0, 2);
+    space_is("pairs of sheet S4", space, pairs, 4);
+    deadlock_is("deadlock of sheet S4 in a number less", topjeska_sheet_deadlock(s4, space, 7),
+                TOPJESKA_REFUSAL_SPACE, 0, 0);
+    fewer.lengths_len = 3;
+    sheet_is_refused("sheet S4 with a length less", fewer, TOPJESKA_REFUSAL_LENGTHS_COUNT);
+    sheet_is_refused("sheet of too many slabs", more, TOPJESKA_REFUSAL_TOO_MANY);
+}
+
 /* A list lent for an arrangement, and what it holds then: numbers that no arrangement has. */
 enum { LENT = TOPJESKA_MOST_TRAINED + 4, HELD = 0xFFFF };
 static uint16_t out[LENT], held[LENT];
@@ -164,6 +326,11 @@ int main(void) {
     plans();
     deadlocks();
     replays();
+    checks_with();
+    plans_with();
+    deadlocks_with();
+    replays_with();
+    sheets();
     trainings();
     draws();
     return ended();

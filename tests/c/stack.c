@@ -1,7 +1,8 @@
-/* The stack of every operation at its most slabs, held to TOPJESKA_STACK_BYTES. Each runs in a thread
- * of its own on a painted stack, and what it used is counted from the end of that stack down to
- * where the paint begins: thread and all, so that a thread with TOPJESKA_STACK_BYTES is enough. The
- * answers are held too, so that no call ends early. */
+/* The stack of every operation at its most slabs, with lengths and without, held to
+ * TOPJESKA_STACK_BYTES. Each runs in a thread of its own on a painted stack, and what it used is
+ * counted from the end of that stack down to where the paint begins: thread and all, so that a
+ * thread with TOPJESKA_STACK_BYTES is enough. The answers are held too, so that no call ends
+ * early. */
 #define _XOPEN_SOURCE 600
 #include <pthread.h>
 #include <stdlib.h>
@@ -19,8 +20,10 @@ static const char *const names[OPERATIONS] = {"check", "replay", "planning", "de
                                               "training"};
 static size_t most[OPERATIONS];
 
-/* What the calls are lent, and their answers. */
+/* What the calls are lent, all lengths equal, and their answers; whether the lengths are lent. */
 static uint16_t now[SLABS + 1], goal[SLABS + 1], space[TOPJESKA_PLAN_SPACE(SLABS)], method;
+static uint16_t lengths[SLABS + 1];
+static int measured;
 static size_t n = SLABS, lifts_len;
 static uint64_t number;
 static topjeska_generator generator;
@@ -32,18 +35,27 @@ static topjeska_training_answer training_answer, draw_answer;
 
 /* One operation, as a thread; training by both its functions, to now and to the goal. */
 static void *call(void *operation) {
+    const uint16_t options = TOPJESKA_LENGTHS;
+    const size_t plan_len = TOPJESKA_PLAN_SPACE(SLABS), pairs_len = TOPJESKA_DEADLOCK_SPACE(SLABS);
     switch (*(const int *)operation) {
     case CHECK:
-        check_answer = topjeska_check(now, n, goal, n);
+        check_answer = measured ? topjeska_check_with(options, now, n, goal, n, lengths, n)
+                                : topjeska_check(now, n, goal, n);
         break;
     case REPLAY:
-        replay_answer = topjeska_replay(now, n, goal, n, space, lifts_len);
+        replay_answer =
+            measured ? topjeska_replay_with(options, now, n, goal, n, lengths, n, space, lifts_len)
+                     : topjeska_replay(now, n, goal, n, space, lifts_len);
         break;
     case PLAN:
-        plan_answer = topjeska_plan(method, now, n, goal, n, space, TOPJESKA_PLAN_SPACE(SLABS));
+        plan_answer = measured ? topjeska_plan_with(options, method, now, n, goal, n, lengths, n,
+                                                    space, plan_len)
+                               : topjeska_plan(method, now, n, goal, n, space, plan_len);
         break;
     case DEADLOCK:
-        deadlock_answer = topjeska_deadlock(now, n, goal, n, space, TOPJESKA_DEADLOCK_SPACE(SLABS));
+        deadlock_answer = measured ? topjeska_deadlock_with(options, now, n, goal, n, lengths, n,
+                                                            space, pairs_len)
+                                   : topjeska_deadlock(now, n, goal, n, space, pairs_len);
         break;
     case TRAINING:
         training_answer = topjeska_training(n, number, now, TRAINED);
@@ -151,6 +163,7 @@ static void faulty(void) {
     refused("a floating goal", TOPJESKA_REFUSAL_GOAL_FLOATING, 1);
     n = SLABS + 1;
     refused("a slab too many", TOPJESKA_REFUSAL_TOO_MANY, 0);
+    n = SLABS;
 }
 
 /* The last arrangement of the most slabs, where each slab rests on the highest other top there is,
@@ -172,10 +185,12 @@ static void training(void) {
 }
 
 int main(void) {
-    turned_over();
-    ring();
-    many_deadlocks();
-    faulty();
+    for (measured = 0; measured <= 1; measured++) {
+        turned_over();
+        ring();
+        many_deadlocks();
+        faulty();
+    }
     training();
     for (int operation = 0; operation < OPERATIONS; operation++) {
         printf("stack of %s: %zu bytes\n", names[operation], most[operation]);

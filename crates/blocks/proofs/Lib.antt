@@ -19,9 +19,13 @@ pub mod DeadlockTestLaws
 pub mod DeadlockToldLaws
 pub mod QuestionLaws
 pub mod DecidedLaws
+pub mod LengthLaws
 pub mod ReplayLaws
 pub mod FlatLaws
+pub mod WithLaws
 pub mod AnswerLaws
 pub mod AnsweredLaws
 pub mod Theorems
+pub mod WithTheorems
 pub mod Starred
+pub mod WithSheets

@@ -45,7 +45,7 @@ one-more m s g p a h o k =
         by (inr f) = omega (arith, f, head .floor q r)
 
 infixr 5 _&_
-abbrev _&_ : {A B : Type 0} → A → B → A × B
+abbrev pub _&_ : {A B : Type 0} → A → B → A × B
 a & b = (a, b)
 
 pub sheets-hold : AllHold starred × AllHold ties × AllHold counts × AllHold verdicts × AllHold refusals

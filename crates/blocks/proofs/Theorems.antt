@@ -29,11 +29,11 @@ use Rattle.blocks.proofs.DeadlockToldLaws as words
 use Rattle.blocks.proofs.FlatLaws as flats
 use Rattle.blocks.proofs.DecidedLaws as rows
 use Rattle.blocks.proofs.ReplayLaws as replays
-use Rattle.blocks.proofs.AnswerLaws as refusals
+use Rattle.blocks.proofs.AnswerLaws as plain
 use Rattle.blocks.proofs.AnsweredLaws as answers
 
 -- a test that reflects a property, said as an equivalence
-exactly : {P : Type 0} {t : Bool} → Reflects P t → (t ≡ true) ↔ P
+pub exactly : {P : Type 0} {t : Bool} → Reflects P t → (t ≡ true) ↔ P
 exactly r = (λ e. from-true r e, λ q. to-true r q)
 
 -- what a method writes keeps the promise
@@ -106,21 +106,21 @@ theorems =
       move-order = replays.move-order;
       accepts = rows.accepts;
       refuses = rows.refuses;
-      plan-accepts = answers.plan-accepts;
-      deadlock-accepts = answers.deadlock-accepts;
-      replay-accepts = answers.replay-accepts;
-      check-accepts = answers.check-accepts;
-      check-refuses = answers.check-refuses;
-      plan-refuses = refusals.plan-refuses;
-      deadlock-refuses = refusals.deadlock-refuses;
-      replay-refuses = refusals.replay-refuses;
-      plan-refusal = refusals.plan-refusal;
-      deadlock-refusal = refusals.deadlock-refusal;
-      replay-refusal = refusals.replay-refusal;
+      plan-accepts = plain.plan-accepts;
+      deadlock-accepts = plain.deadlock-accepts;
+      replay-accepts = plain.replay-accepts;
+      check-accepts = plain.check-accepts;
+      check-refuses = plain.check-refuses;
+      plan-refuses = plain.plan-refuses;
+      deadlock-refuses = plain.deadlock-refuses;
+      replay-refuses = plain.replay-refuses;
+      plan-refusal = plain.plan-refusal;
+      deadlock-refusal = plain.deadlock-refusal;
+      replay-refusal = plain.replay-refusal;
       plan-answers = answers.plan-answers;
       deadlock-answers = answers.deadlock-answers;
-      replay-answers = answers.replay-answers;
-      never-13 = answers.never-13;
+      replay-answers = plain.replay-answers;
+      never-13 = plain.never-13;
       pairs-back = flats.pairs-back;
       pairs-forth = flats.pairs-forth;
       methods = method-told;
@@ -129,8 +129,8 @@ theorems =
       written-told = answers.written-told;
       replay-verdict = replays.replay-verdict;
       replay-arrives = replays.replay-arrives;
-      replay-says = answers.replay-says;
-      replay-zero = answers.replay-zero;
+      replay-says = plain.replay-says;
+      replay-zero = plain.replay-zero;
       no-verdict = replays.no-verdict;
       last-misplaced =
           λ s g p b m d e. subst (λ x. Misplaced s g x × InPosition s g (support g x) × ((k : ℕ) × (down g k b ≡ x))) (sym e) (stalls.last-misplaced p b m);

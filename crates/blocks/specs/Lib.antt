@@ -11,4 +11,8 @@ pub mod Question
 pub mod Replay
 pub mod Answer
 pub mod Demands
+pub mod Length
+pub mod With
+pub mod WithDemands
 pub mod Sheets
+pub mod WithSheets

@@ -8,6 +8,8 @@ use Rattle.blocks.specs.State.{State}
 use Rattle.blocks.specs.Question.{Asked, allYes, no′, firstNo, deadlockQuestions}
 use Rattle.blocks.specs.Answer.{DeadlockAnswer, deadlockAnswer, deadlockSpace}
 use Rattle.blocks.specs.Demands.{NoDeadlock, Shown}
+use Rattle.blocks.specs.Length.{Lengths}
+use Rattle.blocks.specs.With.{deadlockQuestionsWith, deadlockAnswerWith, deadlockSpaceWith}
 use Rattle.deadlocks.specs.Looks.{Sought}
 use Rattle.deadlocks.specs.declared.Tested.{Tested}
 use Rattle.deadlocks.specs.declared.Tested.the-variants.{Refused, Free, Deadlocked}
@@ -33,7 +35,15 @@ pub record TestsDeadlock (s g : State) (space : List ℕ) (r : Tested) (space′
   pub none : r ≡ Free → NoDeadlock s g
   pub some : (c : ℕ) → r ≡ Deadlocked c → (blocks : List ℕ) × (length blocks ≡ c) × Shown s g blocks (take (2 * c) space′)
 
--- The same of a problem that has been checked.
+-- The same with lengths.
+pub record TestsDeadlockWith (ls : Lengths) (s g : State) (space : List ℕ) (r : Tested) (space′ : List ℕ) : Type 0 where
+  pub asked : askedOf r ≡ firstNo (deadlockQuestionsWith ls s g space)
+  pub answer : answerOf r ≡ deadlockAnswerWith ls s g space
+  pub lent : space′ ≡ deadlockSpaceWith ls s g space
+  pub none : r ≡ Free → NoDeadlock s g
+  pub some : (c : ℕ) → r ≡ Deadlocked c → (blocks : List ℕ) × (length blocks ≡ c) × Shown s g blocks (take (2 * c) space′)
+
+-- What is found in a problem that has been checked.
 pub record Finds (s g : State) (space : List ℕ) (r : Tested) (space′ : List ℕ) : Type 0 where
   pub count : ℕ
   pub sought : Sought s g space count space′

@@ -3,11 +3,12 @@ ghost use mathlib.Core.Path.{_≡_};
 ghost use Rattle.blocks.specs.State.{State};
 ghost use Rattle.blocks.specs.Stall.{NoneReady};
 ghost use Rattle.blocks.specs.Loop.{loop, onward, blockedPairs};
+ghost use Rattle.blocks.specs.Length.{given};
 ghost use Rattle.lists.specs.Lists.{overwrite};
 ghost use Rattle.statuses.specs.Kept.{Kept};
 ghost use Rattle.statuses.specs.declared.Mode.the-variants.{Gn2};
 ghost use Rattle.deadlocks.specs.Looks.{Shows, Showable, Lookable, Looked, Seekable, Sought};
-ghost use Rattle.deadlocks.specs.Answers.{TestsDeadlock, Finds};
+ghost use Rattle.deadlocks.specs.Answers.{TestsDeadlock, TestsDeadlockWith, Finds};
 use numberset::WORDS;
 use problem::Checked;
 use rows::MOST;
@@ -30,8 +31,21 @@ pub enum Tested {
 pub fn deadlock(initial: &[u16], goal: &[u16], out: &mut [u16]) -> Tested
     ensures { λ r. ⌜ TestsDeadlock (now (initial .entry)) (now (goal .entry)) (now (out .entry)) r (now (out .exit)) ⌝ }
 {
+    deadlock_with(initial, goal, false, &initial[..0], out)
+}
+
+// The same with questions 16 to 18 after 9; where the problem is not measured, the lengths are not looked at.
+pub fn deadlock_with(
+    initial: &[u16],
+    goal: &[u16],
+    measured: bool,
+    lengths: &[u16],
+    out: &mut [u16],
+) -> Tested
+    ensures { λ r. ⌜ TestsDeadlockWith (given measured (now (lengths .entry))) (now (initial .entry)) (now (goal .entry)) (now (out .entry)) r (now (out .exit)) ⌝ }
+{
     let mut yard = [[0u16; ROW]; ROWS];
-    let checked = problem::examine(initial, goal, &mut yard);
+    let checked = lengths::examine(initial, goal, measured, lengths, &mut yard);
     if let Checked::Refused { number, place } = checked {
         return Tested::Refused { number, place };
     }

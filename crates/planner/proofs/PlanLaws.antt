@@ -1,4 +1,4 @@
--- Planning whole: what each way out of `plan` answers, and what a checked problem with room lends to `solve`. Assumes nothing.
+-- Planning whole: what each way out of `plan_with` answers, and what a checked problem with room lends to `solve`. Assumes nothing.
 use Prim.Native.Nat.{ℕ, zero, suc, _*_, _≤_, _<_}
 use mathlib.Core.Path.{_≡_, refl, sym, ap, ap₂, _∙_, subst}
 use mathlib.Core.Logic.{inl, inr, _≢_}
@@ -11,24 +11,26 @@ use Rattle.lists.proofs.WriteLaws.{overwrite-front}
 use Rattle.rows.specs.Rows.{Yard, rowCount, Fresh, Sized}
 use Rattle.rows.proofs.RowLaws.{sized-within}
 use Rattle.blocks.specs.State.{State}
-use Rattle.blocks.specs.Position.{Problem, Accepted}
+use Rattle.blocks.specs.Position.{Problem}
 use Rattle.blocks.specs.Tests.{misplacedCount}
 use Rattle.blocks.specs.Method.{Method, plan, methodOf, outcomeBy, planOf, planOutcome}
 use Rattle.blocks.specs.Steps as words
-use Rattle.blocks.specs.Question.{allYes, firstNo, IsMethod, isMethod, asksMethod, asksRoom, problemQuestions, planQuestions, PlanRefused}
-use Rattle.blocks.specs.Answer.{flat, moves, planned, written, planAnswer, planSpace}
-use Rattle.blocks.specs.Demands.{HeadCount, Promise}
+use Rattle.blocks.specs.Question.{allYes, firstNo, IsMethod, isMethod, asksMethod, asksRoom}
+use Rattle.blocks.specs.Answer.{flat, moves, planned, written}
+use Rattle.blocks.specs.Length.{Lengths, AcceptedWith}
+use Rattle.blocks.specs.With.{problemQuestionsWith, planQuestionsWith, PlanRefusedWith, planAnswerWith, planSpaceWith}
+use Rattle.blocks.specs.WithDemands.{HeadCountWith, PromiseWith}
 use Rattle.blocks.proofs.FlatLaws.{pairs-back, length-flat}
 use Rattle.blocks.proofs.QuestionLaws.{sentence-append}
-use Rattle.blocks.proofs.DecidedLaws.{method-decided, problem-yes}
-use Rattle.blocks.proofs.AnswerLaws.{plan-refuses, plan-refusal}
-use Rattle.blocks.proofs.AnsweredLaws.{plan-accepts}
+use Rattle.blocks.proofs.DecidedLaws.{method-decided}
+use Rattle.blocks.proofs.WithLaws.{problem-yes, plan-refuses, plan-refusal, plan-accepts, plan-none, as-before}
 use Rattle.blocks.proofs.Theorems.{theorems}
-use Rattle.problem.specs.Checked.{Examines}
+use Rattle.blocks.proofs.WithTheorems.{with-theorems, promise-plain, head-count-plain}
 use Rattle.problem.specs.declared.Checked as case
-use Rattle.problem.proofs.CheckLaws.{accepted, refused-by}
+use Rattle.lengths.specs.Checks.{ExaminesWith}
+use Rattle.lengths.proofs.ExamineLaws.{accepted, refused-by, examined}
 use Rattle.runs.proofs.LentLaws.{unvisited}
-use Rattle.planner.specs.Answers.{answerOf, asMethod, namedAs, Plans, Solvable, Ran, Solved}
+use Rattle.planner.specs.Answers.{answerOf, asMethod, namedAs, Plans, PlansWith, Solvable, Ran, Solved}
 use Rattle.planner.specs.declared.Method as declared
 use Rattle.planner.specs.declared.Named.{Named}
 use Rattle.planner.specs.declared.Named.the-variants.{By, Unknown}
@@ -37,11 +39,11 @@ use Rattle.planner.specs.declared.Planned.the-variants.{Refused, Made}
 
 -- ---- refusals
 
-refusal : {m : ℕ} {s g : State} {space : List ℕ} (k p : ℕ) → PlanRefused m s g space k p → Plans m s g space (Refused k p) space
-refusal {m} {s} {g} {space} k p r =
-    let w = plan-refusal m s g space k p r in
+refusal : {ls : Lengths} {m : ℕ} {s g : State} {space : List ℕ} (k p : ℕ) → PlanRefusedWith ls m s g space k p → PlansWith ls m s g space (Refused k p) space
+refusal {ls} {m} {s} {g} {space} k p r =
+    let w = plan-refusal ls m s g space k p r in
     record {
-      asked = sym (plan-refuses m s g space k p .1 r);
+      asked = sym (plan-refuses ls m s g space k p .1 r);
       answer = sym (w .0);
       lent = sym (w .1);
       told = λ c d e. none-made e;
@@ -68,14 +70,15 @@ is-method : (m : ℕ) → Reflects (IsMethod m) (isMethod (methodOf m))
 unfolding asksMethod
 is-method m = method-decided m .decides
 
-pub unknown-way : {m : ℕ} (s g : State) (space : List ℕ) {r : Named} → namedAs r ≡ methodOf m → r ≡ Unknown → Plans m s g space (Refused 1 0) space
-unfolding planQuestions asksMethod
-unknown-way {m} s g space {r} e u =
+pub unknown-way : (ls : Lengths) {m : ℕ} (s g : State) (space : List ℕ) {r : Named} → namedAs r ≡ methodOf m → r ≡ Unknown
+    → PlansWith ls m s g space (Refused 1 0) space
+unfolding planQuestionsWith asksMethod
+unknown-way ls {m} s g space {r} e u =
     refusal 1 0 (inl (refl, (refl, from-false (is-method m) (ap isMethod (sym e ∙ ap namedAs u)))))
 
 -- ---- what is written is told by the method's words, and keeps the promise
 
-module _ {by : Method} {s g : State} {space : List ℕ} {r : ℕ} {space′ : List ℕ} {k : ℕ} (q : Problem s g) (v : Ran by s g space r space′) (e : k ≡ r) where
+module _ {by : Method} {s g : State} {space : List ℕ} {r : ℕ} {space′ : List ℕ} {k : ℕ} (v : Ran by s g space r space′) (e : k ≡ r) where
   -- the list at the front of the space
   front : moves (take (2 * k) space′) ≡ v .moves
   front =
@@ -83,48 +86,50 @@ module _ {by : Method} {s g : State} {space : List ℕ} {r : ℕ} {space′ : Li
       let long : 2 * k ≡ length (flat p) = omega (arith, e, v .count, length-flat p) in
       ap₂ (λ i l. moves (take i l)) long (v .written) ∙ ap moves (overwrite-front (flat p) space) ∙ pairs-back p
 
-  told : words.By by s g (moves (take (2 * k) space′))
-  told = subst (words.By by s g) (sym front) (theorems .methods by s g q (v .moves) .0 (v .outcome))
+  told : Problem s g → words.By by s g (moves (take (2 * k) space′))
+  told q = subst (words.By by s g) (sym front) (theorems .methods by s g q (v .moves) .0 (v .outcome))
 
-  promised : Promise by s g (moves (take (2 * k) space′))
-  promised =
-      let w = theorems .demand by s g q in
+  promised : {ls : Lengths} → AcceptedWith ls s g → PromiseWith ls by s g (moves (take (2 * k) space′))
+  promised {ls} a =
+      let w = with-theorems .demand ls by s g a in
       let same : w .0 ≡ v .moves = cc (w .1, v .outcome) in
-      subst (Promise by s g) (same ∙ sym front) (w .2)
+      subst (PromiseWith ls by s g) (same ∙ sym front) (w .2)
 
 -- a checked problem with room
-pub solvable : {s g : State} {space : List ℕ} {c : case.Checked} {y y′ : Yard} → Examines s g c y y′ → c ≡ case.the-variants.Accepted → Sized y → Fresh rowCount y
-    → 4 * length s ≤ length space → Solvable s g y′ space
-solvable w d z f h = record { problem = accepted (w .checks) d; sized = sized-within z (w .within); start = w .known d; visits = unvisited f w; room = h }
+pub solvable : {ls : Lengths} {s g : State} {space : List ℕ} {c : case.Checked} {y y′ : Yard} → ExaminesWith ls s g c y y′ → c ≡ case.the-variants.Accepted
+    → Sized y → Fresh rowCount y → 4 * length s ≤ length space → Solvable s g y′ space
+solvable w d z f h =
+    record { problem = accepted (w .checks) d .accepted; sized = sized-within z (w .within); start = w .known d; visits = unvisited f (examined w d); room = h }
 
 -- ---- the ways out of a named method
 
-module _ (m : ℕ) (s g : State) (space : List ℕ) (r : Named) (by : declared.Method) (e : namedAs r ≡ methodOf m) (n : r ≡ By by) where
+module _ (ls : Lengths) (m : ℕ) (s g : State) (space : List ℕ) (r : Named) (by : declared.Method) (e : namedAs r ≡ methodOf m) (n : r ≡ By by) where
   method : methodOf m ≡ some (asMethod by)
   method = sym e ∙ ap namedAs n
 
   known : IsMethod m
   known = from-true (is-method m) (ap isMethod method)
 
-  module _ {c : case.Checked} {y y′ : Yard} (w : Examines s g c y y′) where
-    pub refused-way : {k p : ℕ} → c ≡ case.the-variants.Refused k p → Plans m s g space (Refused k p) space
-    unfolding planQuestions asksMethod
-    refused-way {k} {p} d = refusal k p (inr (known, sentence-append (problemQuestions s g) _ k p .1 (inl (refused-by (w .checks) d))))
+  module _ {c : case.Checked} {y y′ : Yard} (w : ExaminesWith ls s g c y y′) where
+    pub refused-way : {k p : ℕ} → c ≡ case.the-variants.Refused k p → PlansWith ls m s g space (Refused k p) space
+    unfolding planQuestionsWith asksMethod
+    refused-way {k} {p} d = refusal k p (inr (known, sentence-append (problemQuestionsWith ls s g) _ k p .1 (inl (refused-by (w .checks) d))))
 
     module _ (d : c ≡ case.the-variants.Accepted) where
-      accept : Accepted s g
+      accept : AcceptedWith ls s g
       accept = accepted (w .checks) d
 
-      pub room-way : length space < 4 * length s → Plans m s g space (Refused 10 0) space
-      unfolding planQuestions asksMethod asksRoom
+      pub room-way : length space < 4 * length s → PlansWith ls m s g space (Refused 10 0) space
+      unfolding planQuestionsWith asksMethod asksRoom
       room-way h =
-          refusal 10 0 (inr (known, sentence-append (problemQuestions s g) _ 10 0 .1 (inr (problem-yes s g .1 accept, inl (refl, (refl, λ l. omega arith))))))
+          let first = sentence-append (problemQuestionsWith ls s g) _ 10 0 .1 in
+          refusal 10 0 (inr (known, first (inr (problem-yes ls s g .1 accept, inl (refl, (refl, λ l. omega arith))))))
 
       module _ (h : 4 * length s ≤ length space) where
         -- ---- the plan
 
-        pub made-way : {a : Planned} {space′ : List ℕ} → Solved (asMethod by) s g space a space′ → Plans m s g space a space′
-        unfolding planAnswer planSpace planOutcome
+        pub made-way : {a : Planned} {space′ : List ℕ} → Solved (asMethod by) s g space a space′ → PlansWith ls m s g space a space′
+        unfolding planAnswerWith planSpaceWith planOutcome
         made-way {a} {space′} u = rw (u .made) (record {
           asked = sym yes;
           answer = ap (λ k. answerOf (Made k (misplacedCount s g))) (v .count) ∙ sym (ap₂ (λ q o. planned q s g (planOf o)) yes given);
@@ -132,21 +137,34 @@ module _ (m : ℕ) (s g : State) (space : List ℕ) (r : Named) (by : declared.M
           told = λ k j f b o.
               let count : u .count ≡ k = cc in
               let same : asMethod by ≡ b = cc in
-              subst (λ i. words.By i s g (moves (take (2 * k) space′))) same (told (accept .problem) v (sym count));
+              subst (λ i. words.By i s g (moves (take (2 * k) space′))) same (told v (sym count) (accept .accepted .problem));
           promise = λ k j f b o.
               let count : u .count ≡ k = cc in
               let same : asMethod by ≡ b = cc in
-              subst (λ i. Promise i s g (moves (take (2 * k) space′))) same (promised (accept .problem) v (sym count));
+              subst (λ i. PromiseWith ls i s g (moves (take (2 * k) space′))) same (promised v (sym count) accept);
           head-count = λ k j f.
               let misplaced : misplacedCount s g ≡ j = cc in
-              subst (HeadCount s g) misplaced (theorems .head-count s g (accept .problem));
+              subst (HeadCountWith ls s g) misplaced (with-theorems .head-count ls s g accept);
         })
           where
             v : Ran (asMethod by) s g space (u .count) space′
             v = u .ran
 
-            yes : firstNo (planQuestions m s g space) ≡ allYes
-            yes = plan-accepts m s g space .1 (known, accept, h)
+            yes : firstNo (planQuestionsWith ls m s g space) ≡ allYes
+            yes = plan-accepts ls m s g space .1 (known, accept, h)
 
             given : outcomeBy (methodOf m) s g ≡ plan (v .moves)
             given = ap (λ o. outcomeBy o s g) method ∙ v .outcome
+
+-- ---- without lengths
+
+pub plain-way : {m : ℕ} {s g : State} {space : List ℕ} {r : Planned} {space′ : List ℕ} → PlansWith none m s g space r space′ → Plans m s g space r space′
+plain-way {m} {s} {g} {space} w =
+    record {
+      asked = w .asked ∙ ap firstNo (plan-none m s g space);
+      answer = w .answer ∙ as-before .plan m s g space;
+      lent = w .lent ∙ as-before .plan-space m s g space;
+      told = w .told;
+      promise = λ c d e by o. promise-plain (w .promise c d e by o);
+      head-count = λ c d e. head-count-plain (w .head-count c d e);
+    }

@@ -17,6 +17,9 @@ use Rattle.blocks.specs.Steps as words
 use Rattle.blocks.specs.Question.{Asked, allYes, no′, firstNo, planQuestions}
 use Rattle.blocks.specs.Answer.{PlanAnswer, flat, moves, planAnswer, planSpace}
 use Rattle.blocks.specs.Demands.{HeadCount, Promise}
+use Rattle.blocks.specs.Length.{Lengths}
+use Rattle.blocks.specs.With.{planQuestionsWith, planAnswerWith, planSpaceWith}
+use Rattle.blocks.specs.WithDemands.{HeadCountWith, PromiseWith}
 use Rattle.problem.specs.Known.{AtStart}
 use Rattle.choices.specs.Choices.{Visits}
 use Rattle.statuses.specs.declared.Mode.{Mode}
@@ -67,6 +70,15 @@ pub record Plans (m : ℕ) (s g : State) (space : List ℕ) (r : Planned) (space
   pub told : (c d : ℕ) → r ≡ Made c d → (by : method.Method) → methodOf m ≡ some by → words.By by s g (moves (take (2 * c) space′))
   pub promise : (c d : ℕ) → r ≡ Made c d → (by : method.Method) → methodOf m ≡ some by → Promise by s g (moves (take (2 * c) space′))
   pub head-count : (c d : ℕ) → r ≡ Made c d → HeadCount s g d
+
+-- The same with lengths: what is promised is under their rule.
+pub record PlansWith (ls : Lengths) (m : ℕ) (s g : State) (space : List ℕ) (r : Planned) (space′ : List ℕ) : Type 0 where
+  pub asked : askedOf r ≡ firstNo (planQuestionsWith ls m s g space)
+  pub answer : answerOf r ≡ planAnswerWith ls m s g space
+  pub lent : space′ ≡ planSpaceWith ls m s g space
+  pub told : (c d : ℕ) → r ≡ Made c d → (by : method.Method) → methodOf m ≡ some by → words.By by s g (moves (take (2 * c) space′))
+  pub promise : (c d : ℕ) → r ≡ Made c d → (by : method.Method) → methodOf m ≡ some by → PromiseWith ls by s g (moves (take (2 * c) space′))
+  pub head-count : (c d : ℕ) → r ≡ Made c d → HeadCountWith ls s g d
 
 -- A problem that has been checked, with its rows as the check left them, and room for the plan.
 pub record Solvable (s g : State) (y : Yard) (out : List ℕ) : Type 0 where

@@ -1,7 +1,8 @@
 // Planning by the three methods (document 01, "The three methods"; document 001, section 3.2).
 ghost use mathlib.Core.Path.{_≡_};
 ghost use Rattle.blocks.specs.Method.{methodOf};
-ghost use Rattle.planner.specs.Answers.{asMethod, namedAs, modeOf, isUs, Plans, Solvable, Ran, Solved};
+ghost use Rattle.blocks.specs.Length.{given};
+ghost use Rattle.planner.specs.Answers.{asMethod, namedAs, modeOf, isUs, Plans, PlansWith, Solvable, Ran, Solved};
 use numberset::WORDS;
 use problem::Checked;
 use rows::MOST;
@@ -45,6 +46,20 @@ pub fn method_of(number: u16) -> Named
 pub fn plan(method: u16, initial: &[u16], goal: &[u16], out: &mut [u16]) -> Planned
     ensures { λ r. ⌜ Plans method (now (initial .entry)) (now (goal .entry)) (now (out .entry)) r (now (out .exit)) ⌝ }
 {
+    plan_with(method, initial, goal, false, &initial[..0], out)
+}
+
+// The same with questions 16 to 18 after 9; where the problem is not measured, the lengths are not looked at.
+pub fn plan_with(
+    method: u16,
+    initial: &[u16],
+    goal: &[u16],
+    measured: bool,
+    lengths: &[u16],
+    out: &mut [u16],
+) -> Planned
+    ensures { λ r. ⌜ PlansWith (given measured (now (lengths .entry))) method (now (initial .entry)) (now (goal .entry)) (now (out .entry)) r (now (out .exit)) ⌝ }
+{
     let named = method_of(method);
     let Named::By(by) = named else {
         return Planned::Refused {
@@ -53,7 +68,7 @@ pub fn plan(method: u16, initial: &[u16], goal: &[u16], out: &mut [u16]) -> Plan
         };
     };
     let mut yard = [[0u16; ROW]; ROWS];
-    let checked = problem::examine(initial, goal, &mut yard);
+    let checked = lengths::examine(initial, goal, measured, lengths, &mut yard);
     if let Checked::Refused { number, place } = checked {
         return Planned::Refused { number, place };
     }

@@ -9,7 +9,7 @@ use lib.Dec.{leb, ltb, eqb, lit<}
 use lib.ListN.{length, getD}
 use Rattle.records.specs.Marks.{marks, row, markOf, size}
 use Rattle.records.specs.declared.Kind.{Kind}
-use Rattle.records.specs.declared.Kind.the-variants.{Hd, Nw, Gl, Pl, Lf, No}
+use Rattle.records.specs.declared.Kind.the-variants.{Hd, Nw, Gl, Pl, Lf, No, Hl, Ln}
 use Rattle.records.specs.declared.Mark.{Mark}
 
 -- Two tests passed together.
@@ -29,13 +29,15 @@ at-row t [] i d h l = absurd (omega arith)
 at-row t (m ∷ ms) zero d h l = both (t m) (all t ms) h .0
 at-row t (m ∷ ms) (suc i) d h l = at-row t ms i d (both (t m) (all t ms) h .1) (omega arith)
 
-pub row-small : (k : Kind) → row k < 6
+pub row-small : (k : Kind) → row k < 8
 row-small Hd = lit< tt
 row-small Nw = lit< tt
 row-small Gl = lit< tt
 row-small Pl = lit< tt
 row-small Lf = lit< tt
 row-small No = lit< tt
+row-small Hl = lit< tt
+row-small Ln = lit< tt
 
 every : (t : Mark → Bool) → all t marks ≡ true → (k : Kind) → t (markOf k) ≡ true
 unfolding markOf marks
@@ -94,7 +96,7 @@ found-kind [] h l = Hd
 found-kind (k ∷ ks) h l = cond (eqb (markOf k .high) h && eqb (markOf k .low) l) k (found-kind ks h l)
 
 abbrev kinds : List Kind
-kinds = Hd ∷ Nw ∷ Gl ∷ Pl ∷ Lf ∷ No ∷ []
+kinds = Hd ∷ Nw ∷ Gl ∷ Pl ∷ Lf ∷ No ∷ Hl ∷ Ln ∷ []
 
 by-mark : (k : Kind) → found-kind kinds (markOf k .high) (markOf k .low) ≡ k
 unfolding found-kind markOf marks
@@ -104,6 +106,8 @@ by-mark Gl = refl
 by-mark Pl = refl
 by-mark Lf = refl
 by-mark No = refl
+by-mark Hl = refl
+by-mark Ln = refl
 
 pub own-mark : (j k : Kind) → markOf j .high ≡ markOf k .high → markOf j .low ≡ markOf k .low → j ≡ k
 own-mark j k h l = sym (by-mark j) ∙ ap₂ (found-kind kinds) h l ∙ by-mark k

@@ -1,13 +1,13 @@
--- The table of marks (document 01, "Records of the program"). The other definitions take marks and numbers of fields from here; only the examples write
--- bytes out. Assumes nothing.
+-- The table of marks (document 01, "Records of the program"; document 02, Job 3). The other definitions take marks and numbers of fields from here; only the
+-- examples write bytes out. Assumes nothing.
 use Prim.Native.Nat.{ℕ, _+_, _*_}
 use mathlib.Core.List.{List, [], _∷_}
 use lib.ListN.{getD}
 use Rattle.records.specs.declared.Kind.{Kind}
-use Rattle.records.specs.declared.Kind.the-variants.{Hd, Nw, Gl, Pl, Lf, No}
+use Rattle.records.specs.declared.Kind.the-variants.{Hd, Nw, Gl, Pl, Lf, No, Hl, Ln}
 use Rattle.records.specs.declared.Mark.{Mark}
 
--- Document 01's table, in its order: the two bytes of the mark and the number of fields.
+-- Document 01's table, in its order, and behind it the marks of document 02, Job 3: the two bytes of the mark and the number of fields.
 unfoldable pub marks : List Mark
 marks =
     -- HD, 48 44: n, method
@@ -22,6 +22,10 @@ marks =
     ∷ record { high = 76; low = 70; fields = 2 }
     -- NO, 4E 4F: refusal number, place
     ∷ record { high = 78; low = 79; fields = 2 }
+    -- HL, 48 4C: HD's fields
+    ∷ record { high = 72; low = 76; fields = 2 }
+    -- LN, 4C 4E: length
+    ∷ record { high = 76; low = 78; fields = 1 }
     ∷ []
 
 -- Where a kind stands in the table.
@@ -32,6 +36,8 @@ row Gl = 2
 row Pl = 3
 row Lf = 4
 row No = 5
+row Hl = 6
+row Ln = 7
 
 -- The mark of a kind. Every kind has a row, so the default is never taken.
 unfoldable pub markOf : Kind → Mark

@@ -1,4 +1,4 @@
-// Records of the program (document 01, "Records of the program"): read and written by one table of marks.
+// Records of the program (document 01, "Records of the program"; document 02, Job 3): read and written by one table of marks.
 ghost use mathlib.Core.Path.{_≡_};
 ghost use mathlib.Core.List.{[], _∷_};
 ghost use Prim.Native.Nat.{_+_, _<_, _≤_};
@@ -15,6 +15,8 @@ pub enum Kind {
     Pl,
     Lf,
     No,
+    Hl,
+    Ln,
 }
 
 // A mark, high byte first, and how many fields follow it.
@@ -24,8 +26,9 @@ pub struct Mark {
     pub fields: usize,
 }
 
-// Document 01's table, proved to be that of specs/Marks.antt. Reader and writer take marks and numbers of fields from it alone.
-const MARKS: [Mark; 6] = [
+// Document 01's table and the marks of document 02, Job 3, proved to be that of specs/Marks.antt. Reader and writer take marks and numbers of fields from
+// it alone.
+const MARKS: [Mark; 8] = [
     Mark {
         high: b'H',
         low: b'D',
@@ -55,6 +58,16 @@ const MARKS: [Mark; 6] = [
         high: b'N',
         low: b'O',
         fields: 2,
+    },
+    Mark {
+        high: b'H',
+        low: b'L',
+        fields: 2,
+    },
+    Mark {
+        high: b'L',
+        low: b'N',
+        fields: 1,
     },
 ];
 
@@ -225,5 +238,7 @@ fn row(kind: Kind) -> usize
         Kind::Pl => 3,
         Kind::Lf => 4,
         Kind::No => 5,
+        Kind::Hl => 6,
+        Kind::Ln => 7,
     }
 }

@@ -7,25 +7,26 @@ use mathlib.Core.List.{List, [], _∷_, _++_}
 use native.Mathlib.Omega.{arith}
 use lib.ListN.{length, length-replicate}
 use Rattle.blocks.specs.State.{State, most}
-use Rattle.blocks.specs.Question.{no′, firstNo, AllYes, FirstNo, IsMethod, asksMethod, asksSize, asksRoom, asksPlan, problemQuestions, planQuestions}
+use Rattle.blocks.specs.Question.{no′, firstNo, AllYes, FirstNo, IsMethod, asksMethod, asksSize, asksRoom, asksPlan}
 use Rattle.blocks.specs.Method.{planOutcome}
+use Rattle.blocks.specs.Length.{Lengths}
+use Rattle.blocks.specs.With.{problemQuestionsWith, planQuestionsWith}
 use Rattle.lists.proofs.ReflectLaws.{Reflects, holds, fails, same?}
-use Rattle.records.specs.Records.{recordAt}
 use Rattle.records.specs.There.{AllThere}
-use Rattle.records.specs.declared.Kind.the-variants.{Hd, Nw, Gl}
-use Rattle.records.specs.declared.Found.the-variants.{Record, Missing}
-use Rattle.records.proofs.ReadLaws.{found-room}
+use Rattle.records.specs.declared.Kind.the-variants.{Nw, Gl, Ln}
 use Rattle.records.proofs.ThereLaws.{all-there, first-missing}
+use Rattle.sheets.specs.declared.Head.the-variants.{Missing, There}
 use Rattle.sheets.specs.declared.Sheet.{Sheet}
 use Rattle.sheets.specs.declared.Sheet.the-variants.{Headless, Long, Broken, Whole}
-use Rattle.sheets.specs.Sheets.{nowsAt, goalsAt, endAt, nows, goals}
+use Rattle.sheets.specs.Sheets.{headAt, lengthCount, nowsAt, goalsAt, lengthsAt, endAt, nows, goals}
 use Rattle.sheets.specs.Reads.{ReadsSheet}
-use Rattle.sheets.specs.Cases.{IsLong, NowMissing, GoalMissing, IsBroken, IsWhole}
+use Rattle.sheets.specs.Cases.{IsLong, RecordMissing, IsBroken, IsWhole}
+use Rattle.sheets.proofs.HeadLaws.{head-room}
 use Rattle.sheets.proofs.SheetLaws as read
-use Rattle.planner.specs.Answers.{Plans}
+use Rattle.planner.specs.Answers.{PlansWith}
 use Rattle.planner.specs.declared.Planned.{Planned}
 use Rattle.planner.specs.declared.Planned.the-variants.{Refused, Made}
-use Rattle.responder.specs.Responses.{asksNows, asksGoals, asksTail, recordQuestions, lent, sheetQuestions}
+use Rattle.responder.specs.Responses.{asksNows, asksGoals, asksLengthRecords, asksTail, recordQuestions, lengthsOf, lent, sheetQuestions}
 use Rattle.responder.specs.Responses.{refusalBytes, planRecords, reply, sheetResponse, responseBy, responseTo}
 use Rattle.responder.specs.Answers.{refusedAs, Askable, AsksBy, Asks, replyOf, Writable}
 use Rattle.responder.proofs.BehindLaws.{once, without-yes, without-room}
@@ -42,21 +43,21 @@ pub record Answered (bytes : List ℕ) (r : Planned) (space′ : List ℕ) : Typ
 refusal : {bytes : List ℕ} {k p : ℕ} (space : List ℕ) → refusalBytes k p ≡ responseTo bytes → Answered bytes (Refused k p) space
 refusal space e = record { same = e; writable = record { counts = λ c d f. let z : _≡_ {A = ℕ} 0 1 = cc in absurd (omega arith) } }
 
-pub headless-way : {bytes : List ℕ} (space : List ℕ) {r : Planned} → recordAt Hd bytes 0 ≡ Missing → r ≡ Refused 12 0 → Answered bytes r space
+pub headless-way : {bytes : List ℕ} (space : List ℕ) {r : Planned} → headAt bytes 0 ≡ Missing → r ≡ Refused 12 0 → Answered bytes r space
 unfolding responseTo
-headless-way {bytes} space {r} head e = subst (λ a. Answered bytes a space) (sym e) (refusal space (sym (ap (λ f. responseBy f bytes) head)))
+headless-way {bytes} space {r} head e = subst (λ a. Answered bytes a space) (sym e) (refusal space (sym (ap (λ h. responseBy h bytes) head)))
 
-module _ (bytes : List ℕ) {n m : ℕ} (head : recordAt Hd bytes 0 ≡ Record n m) (space : List ℕ) where
-  pub responds : sheetResponse n m bytes ≡ responseTo bytes
+module _ (bytes : List ℕ) {t : Bool} {n m : ℕ} (head : headAt bytes 0 ≡ There t n m) (space : List ℕ) where
+  pub responds : sheetResponse t n m bytes ≡ responseTo bytes
   unfolding responseTo
-  responds = sym (ap (λ f. responseBy f bytes) head)
+  responds = sym (ap (λ h. responseBy h bytes) head)
 
-  asked-no : {k p : ℕ} → firstNo (sheetQuestions n m bytes) ≡ no′ k p → Answered bytes (Refused k p) space
+  asked-no : {k p : ℕ} → firstNo (sheetQuestions t n m bytes) ≡ no′ k p → Answered bytes (Refused k p) space
   unfolding sheetResponse
-  asked-no e = refusal space (sym (ap (λ a. reply a (planRecords m (nows bytes 0 n) (goals bytes 0 n) (lent n))) e) ∙ responds)
+  asked-no e = refusal space (sym (ap (λ a. reply a (planRecords (lengthsOf t n bytes) m (nows bytes 0 n) (goals bytes 0 n) (lent n))) e) ∙ responds)
 
-  no-way : {k p : ℕ} → FirstNo (sheetQuestions n m bytes) k p → Answered bytes (Refused k p) space
-  no-way {k} {p} f = asked-no (sheet-refuses n m bytes k p .1 f)
+  no-way : {k p : ℕ} → FirstNo (sheetQuestions t n m bytes) k p → Answered bytes (Refused k p) space
+  no-way {k} {p} f = asked-no (sheet-refuses t n m bytes k p .1 f)
 
   -- question 1
   pub unnamed-way : ¬ IsMethod m → Answered bytes (Refused 1 0) space
@@ -64,11 +65,11 @@ module _ (bytes : List ℕ) {n m : ℕ} (head : recordAt Hd bytes 0 ≡ Record n
   unnamed-way i = no-way (inl (refl, (refl, i)))
 
   -- question 1 before it
-  behind-way : (k p : ℕ) {r : Planned} → (IsMethod m → FirstNo (sheetQuestions n m bytes) k p) → r ≡ refusedAs m k p → Answered bytes r space
+  behind-way : (k p : ℕ) {r : Planned} → (IsMethod m → FirstNo (sheetQuestions t n m bytes) k p) → r ≡ refusedAs m k p → Answered bytes r space
   unfolding sheetQuestions asksMethod
   behind-way k p f e = subst (λ a. Answered bytes a space) (sym e) (by (method-reflects m))
     where
-      by : {t : Bool} → Reflects (IsMethod m) t → Answered bytes (cond t (Refused k p) (Refused 1 0)) space
+      by : {u : Bool} → Reflects (IsMethod m) u → Answered bytes (cond u (Refused k p) (Refused 1 0)) space
       by (holds i) = no-way (f i)
       by (fails i) = unnamed-way i
 
@@ -78,18 +79,38 @@ module _ {bytes : List ℕ} {m : ℕ} {r : Planned} (space : List ℕ) where
   long-way w = behind-way bytes (w .head) space 2 0 (λ i. inr (i, inl (refl, (refl, λ l. omega (arith, w .long)))))
 
   pub broken-way : {p : ℕ} → IsBroken bytes 0 m p → r ≡ refusedAs m 12 p → Answered bytes r space
-  unfolding sheetQuestions asksMethod asksSize asksNows asksGoals
+  unfolding sheetQuestions asksMethod asksSize asksNows asksGoals asksLengthRecords
   broken-way {p} w = behind-way bytes (w .head) space 12 p (λ i. inr (i, inr (w .small, by (w .missing))))
     where
-      by : NowMissing bytes 0 (w .n) p ⊎ GoalMissing bytes 0 (w .n) p
-          → FirstNo (recordQuestions (w .n) bytes ++ planQuestions m (nows bytes 0 (w .n)) (goals bytes 0 (w .n)) (lent (w .n))) 12 p
-      by (inl f) = inl (refl, (_, first-missing Nw bytes (nowsAt 0) (w .n) (f .few), f .place))
-      by (inr f) =
-          inr (all-there Nw bytes (nowsAt 0) (w .n) .0 (f .nows-there), inl (refl, (_, first-missing Gl bytes (goalsAt 0 (w .n)) (w .n) (f .few), f .place)))
+      t : Bool
+      t = w .measured
+
+      n : ℕ
+      n = w .n
+
+      nows-yes : length (nows bytes 0 n) ≡ n → AllThere Nw bytes (nowsAt 0) n
+      nows-yes e = all-there Nw bytes (nowsAt 0) n .0 e
+
+      goals-yes : length (goals bytes 0 n) ≡ n → AllThere Gl bytes (goalsAt 0 n) n
+      goals-yes e = all-there Gl bytes (goalsAt 0 n) n .0 e
+
+      by : RecordMissing bytes 0 n (lengthCount t n) p
+          → FirstNo (recordQuestions t n bytes ++ planQuestionsWith (lengthsOf t n bytes) m (nows bytes 0 n) (goals bytes 0 n) (lent n)) 12 p
+      by (inl f) = inl (refl, (_, first-missing Nw bytes (nowsAt 0) n (f .few), f .place))
+      by (inr (inl f)) = inr (nows-yes (f .nows-there), inl (refl, (_, first-missing Gl bytes (goalsAt 0 n) n (f .few), f .place)))
+      by (inr (inr f)) =
+          let few = first-missing Ln bytes (lengthsAt 0 n) (lengthCount t n) (f .few) in
+          inr (nows-yes (f .nows-there), inr (goals-yes (f .goals-there), inl (refl, (_, few, f .place))))
 
 -- ---- a whole sheet
 
-module _ {bytes : List ℕ} {n m e : ℕ} (w : IsWhole bytes 0 n m e) where
+module _ {bytes : List ℕ} {n m : ℕ} {t : Bool} {e : ℕ} (w : IsWhole bytes 0 n m t e) where
+  abbrev ls : Lengths
+  ls = lengthsOf t n bytes
+
+  abbrev k : ℕ
+  k = lengthCount t n
+
   abbrev s : State
   s = nows bytes 0 n
 
@@ -102,64 +123,68 @@ module _ {bytes : List ℕ} {n m e : ℕ} (w : IsWhole bytes 0 n m e) where
   goals-yes : AllThere Gl bytes (goalsAt 0 n) n
   goals-yes = all-there Gl bytes (goalsAt 0 n) n .0 (w .goals-there)
 
-  inside : endAt 0 n ≤ length bytes
-  inside = end-room n bytes (found-room Hd bytes 0 (w .head)) nows-yes goals-yes
+  lengths-yes : AllThere Ln bytes (lengthsAt 0 n) k
+  lengths-yes = all-there Ln bytes (lengthsAt 0 n) k .0 (w .lengths-there)
 
-  pub tail-way : (space : List ℕ) {r : Planned} → length bytes ≢ e → r ≡ refusedAs m 12 (2 * n + 1) → Answered bytes r space
-  unfolding sheetQuestions asksMethod asksSize asksNows asksGoals asksTail
+  pub whole-room : endAt 0 n k ≤ length bytes
+  whole-room = end-room n k bytes (head-room bytes 0 (w .head)) nows-yes goals-yes lengths-yes
+
+  pub tail-way : (space : List ℕ) {r : Planned} → length bytes ≢ e → r ≡ refusedAs m 12 (2 * n + k + 1) → Answered bytes r space
+  unfolding sheetQuestions asksMethod asksSize asksNows asksGoals asksLengthRecords asksTail
   tail-way space ne =
-      behind-way bytes (w .head) space 12 (2 * n + 1)
-      (λ i. inr (i, inr (w .small, inr (nows-yes, inr (goals-yes, inl (refl, (refl, omega (arith, ne, w .end, inside))))))))
+      behind-way bytes (w .head) space 12 (2 * n + k + 1)
+      (λ i. inr (i, inr (w .small, inr (nows-yes, inr (goals-yes, inr (lengths-yes, inl (refl, (refl, omega (arith, ne, w .end, whole-room)))))))))
 
   module _ (exact : length bytes ≡ e) (space : List ℕ) (room : 4 * most ≤ length space) where
     -- the questions of the records have a yes, so planning's are asked;
-    then-plan : firstNo (sheetQuestions n m bytes) ≡ firstNo (planQuestions m s g (lent n))
-    unfolding sheetQuestions planQuestions asksSize asksNows asksGoals asksTail
+    then-plan : firstNo (sheetQuestions t n m bytes) ≡ firstNo (planQuestionsWith ls m s g (lent n))
+    unfolding sheetQuestions planQuestionsWith asksSize asksNows asksGoals asksLengthRecords asksTail
     then-plan =
-        let rows : AllYes (middle n bytes) = (w .small, (nows-yes, (goals-yes, (omega (arith, exact, w .end), tt)))) in
-        without-yes (asksMethod m ∷ []) (middle n bytes) (planQuestions m s g (lent n)) (middle-decides n bytes) rows
-        ∙ once (asksMethod m) (problemQuestions s g ++ (asksRoom (4 * length s) (lent n) ∷ asksPlan (planOutcome m s g) ∷ []))
+        let rows : AllYes (middle t n bytes) = (w .small, (nows-yes, (goals-yes, (lengths-yes, (omega (arith, exact, w .end), tt))))) in
+        without-yes (asksMethod m ∷ []) (middle t n bytes) (planQuestionsWith ls m s g (lent n)) (middle-decides t n bytes) rows
+        ∙ once (asksMethod m) (problemQuestionsWith ls s g ++ (asksRoom (4 * length s) (lent n) ∷ asksPlan (planOutcome m s g) ∷ []))
 
     -- and they ask nothing of the lent space but its length
-    same-plan : firstNo (planQuestions m s g (lent n)) ≡ firstNo (planQuestions m s g space)
+    same-plan : firstNo (planQuestionsWith ls m s g (lent n)) ≡ firstNo (planQuestionsWith ls m s g space)
     same-plan =
-        without-room m s g (lent n) (omega (arith, length-replicate {A = ℕ} (4 * n) 0, w .nows-there))
-        ∙ sym (without-room m s g space (omega (arith, room, w .nows-there, w .small)))
+        without-room ls m s g (lent n) (omega (arith, length-replicate {A = ℕ} (4 * n) 0, w .nows-there))
+        ∙ sym (without-room ls m s g space (omega (arith, room, w .nows-there, w .small)))
 
-    plan-way : (r : Planned) {space′ : List ℕ} → Plans m s g space r space′ → Answered bytes r space′
+    plan-way : (r : Planned) {space′ : List ℕ} → PlansWith ls m s g space r space′ → Answered bytes r space′
     unfolding sheetResponse
     plan-way (Refused k p) v = asked-no bytes (w .head) _ (then-plan ∙ same-plan ∙ sym (v .asked))
     plan-way (Made c d) v =
         let all = same-plan ∙ made-yes v in
         record {
-          same = made-records v (lent n) all ∙ sym (ap (λ a. reply a (planRecords m s g (lent n))) (then-plan ∙ all)) ∙ responds bytes (w .head) space;
+          same = made-records v (lent n) all ∙ sym (ap (λ a. reply a (planRecords ls m s g (lent n))) (then-plan ∙ all)) ∙ responds bytes (w .head) space;
           writable = made-writable v;
         }
 
 -- ---- every case
 
-module _ {bytes initial goal : List ℕ} {sheet : Sheet} {initial′ goal′ : List ℕ} (w : ReadsSheet bytes 0 initial goal sheet initial′ goal′) where
+module _ {bytes initial goal lens : List ℕ} {sheet : Sheet} {initial′ goal′ lens′ : List ℕ}
+    (w : ReadsSheet bytes 0 initial goal lens sheet initial′ goal′ lens′) where
   pub askable : Askable sheet
-  askable = record { small = λ n m e f. read.whole-small w f }
+  askable = record { small = λ n m t e f. read.whole-small w f }
 
-  pub answered : {space : List ℕ} {r : Planned} {space′ : List ℕ} → 4 * most ≤ length space → Asks sheet (length bytes) initial′ goal′ space r space′
+  pub answered : {space : List ℕ} {r : Planned} {space′ : List ℕ} → 4 * most ≤ length space → Asks sheet (length bytes) initial′ goal′ lens′ space r space′
       → Answered bytes r space′
   answered {space} {r} {space′} room v = by sheet refl (v .by-case)
     where
-      by : (s : Sheet) → sheet ≡ s → AsksBy s (length bytes) initial′ goal′ space r space′ → Answered bytes r space′
+      by : (s : Sheet) → sheet ≡ s → AsksBy s (length bytes) initial′ goal′ lens′ space r space′ → Answered bytes r space′
       by Headless f e = headless-way space′ (read.headless w f) e
       by (Long m) f e = long-way space′ (read.long w f) e
       by (Broken m p) f e = broken-way space′ (read.broken w f) e
-      by (Whole n m e) f v = whole (same? (length bytes) e)
+      by (Whole n m t e) f v = whole (same? (length bytes) e)
         where
-          is : IsWhole bytes 0 n m e
+          is : IsWhole bytes 0 n m t e
           is = read.whole w f
 
           whole : (length bytes ≡ e) ⊎ (¬ (length bytes ≡ e)) → Answered bytes r space′
           whole (inr ne) = tail-way is space′ ne (v .tail ne)
           whole (inl exact) =
-              plan-way is exact space room r (rw (read.whole-initial w f, read.whole-goal w f) at (v .plans exact))
+              plan-way is exact space room r (rw (read.whole-initial w f, read.whole-goal w f, read.whole-lengths w f) at (v .plans exact))
 
-  pub writable : {space : List ℕ} {r : Planned} {space′ : List ℕ} → 4 * most ≤ length space → Asks sheet (length bytes) initial′ goal′ space r space′
+  pub writable : {space : List ℕ} {r : Planned} {space′ : List ℕ} → 4 * most ≤ length space → Asks sheet (length bytes) initial′ goal′ lens′ space r space′
       → Writable r space′
   writable room v = answered room v .writable

@@ -6,7 +6,9 @@ use mathlib.Core.List.{List, [], _∷_, _++_}
 use lib.ListN.{length}
 use Rattle.blocks.specs.State.{State}
 use Rattle.blocks.specs.Method.{planOutcome}
-use Rattle.blocks.specs.Question.{Question, allYes, no′, firstNo, AllYes, asksMethod, asksRoom, asksPlan, problemQuestions, planQuestions}
+use Rattle.blocks.specs.Question.{Question, allYes, no′, firstNo, AllYes, asksMethod, asksRoom, asksPlan}
+use Rattle.blocks.specs.Length.{Lengths}
+use Rattle.blocks.specs.With.{problemQuestionsWith, planQuestionsWith}
 use Rattle.blocks.proofs.QuestionLaws.{Decides, first-no, first-no-append}
 use Rattle.blocks.proofs.DecidedLaws.{room-decided}
 
@@ -34,9 +36,10 @@ pub without-yes : (qs ys rs : List Question) → Decides ys → AllYes ys → fi
 without-yes qs ys rs d y = same-behind qs (ys ++ rs) rs (λ _. first-no-append ys rs (first-no ys d allYes .1 y))
 
 -- planning with room for the plan
-pub without-room : (m : ℕ) (s g : State) (space : List ℕ) → 4 * length s ≤ length space
-    → firstNo (planQuestions m s g space) ≡ firstNo (asksMethod m ∷ (problemQuestions s g ++ (asksPlan (planOutcome m s g) ∷ [])))
-unfolding planQuestions asksRoom
-without-room m s g space h =
+pub without-room : (ls : Lengths) (m : ℕ) (s g : State) (space : List ℕ) → 4 * length s ≤ length space
+    → firstNo (planQuestionsWith ls m s g space) ≡ firstNo (asksMethod m ∷ (problemQuestionsWith ls s g ++ (asksPlan (planOutcome m s g) ∷ [])))
+unfolding planQuestionsWith asksRoom
+without-room ls m s g space h =
     let room = asksRoom (4 * length s) space in
-    without-yes (asksMethod m ∷ problemQuestions s g) (room ∷ []) (asksPlan (planOutcome m s g) ∷ []) (room-decided (4 * length s) space, λ _. tt) (h, tt)
+    let last = asksPlan (planOutcome m s g) ∷ [] in
+    without-yes (asksMethod m ∷ problemQuestionsWith ls s g) (room ∷ []) last (room-decided (4 * length s) space, λ _. tt) (h, tt)

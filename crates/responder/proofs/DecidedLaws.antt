@@ -2,23 +2,25 @@
 use Prim.Native.Nat.{ℕ, _+_, _≤_, _<_}
 use mathlib.Core.Path.{_≡_, sym, _∙_, ap}
 use mathlib.Core.Logic.{_↔_}
+use mathlib.Core.Bool.{Bool}
 use mathlib.Core.List.{List, _∷_}
 use native.Mathlib.Omega.{arith}
 use lib.ListN.{length}
-use Rattle.blocks.specs.Question.{Question, allYes, no′, firstNo, AllYes, FirstNo, IsMethod, isMethod, asksMethod, asksSize, planQuestions}
+use Rattle.blocks.specs.Question.{Question, allYes, no′, firstNo, AllYes, FirstNo, IsMethod, isMethod, asksMethod, asksSize}
 use Rattle.blocks.specs.Method.{methodOf}
+use Rattle.blocks.specs.With.{planQuestionsWith}
 use Rattle.lists.proofs.ReflectLaws.{Reflects, reflects-iff, eqb-reflects, leb-reflects}
 use Rattle.blocks.proofs.QuestionLaws.{Decided, Decides, first-no, decides-append}
 use Rattle.blocks.proofs.DecidedLaws.{method-decided, size-decided}
-use Rattle.blocks.proofs.AnswerLaws.{plan-decides}
+use Rattle.blocks.proofs.WithLaws.{plan-decides}
 use Rattle.records.specs.Records.{entriesAt}
 use Rattle.records.specs.There.{AllThere, FirstMissing}
 use Rattle.records.specs.declared.Kind.{Kind}
-use Rattle.records.specs.declared.Kind.the-variants.{Nw, Gl}
+use Rattle.records.specs.declared.Kind.the-variants.{Nw, Gl, Ln}
 use Rattle.records.proofs.EntryLaws.{length-entries}
 use Rattle.records.proofs.ThereLaws.{all-room, all-there, first-missing, missing-unique, missing-one}
-use Rattle.sheets.specs.Sheets.{nowsAt, goalsAt, endAt, nows, goals}
-use Rattle.responder.specs.Responses.{asksRecords, asksNows, asksGoals, asksTail, recordQuestions, lent, sheetQuestions}
+use Rattle.sheets.specs.Sheets.{lengthCount, nowsAt, goalsAt, lengthsAt, endAt, nows, goals}
+use Rattle.responder.specs.Responses.{asksRecords, asksNows, asksGoals, asksLengthRecords, asksTail, recordQuestions, lengthsOf, lent, sheetQuestions}
 
 -- ---- the rows
 
@@ -49,18 +51,23 @@ pub goals-decided : (n : ℕ) (bytes : List ℕ) → Decided (asksGoals n bytes)
 unfolding asksGoals
 goals-decided n bytes = records-decided Gl n bytes (goalsAt 0 n) _
 
-pub tail-decided : (n size : ℕ) → Decided (asksTail n size)
+pub lengths-decided : (n k : ℕ) (bytes : List ℕ) → Decided (asksLengthRecords n k bytes)
+unfolding asksLengthRecords
+lengths-decided n k bytes = records-decided Ln k bytes (lengthsAt 0 n) _
+
+pub tail-decided : (n k size : ℕ) → Decided (asksTail n k size)
 unfolding asksTail
-tail-decided n size =
+tail-decided n k size =
     record {
-      decides = leb-reflects size (endAt 0 n);
+      decides = leb-reflects size (endAt 0 n k);
       faults = λ p. (λ f. (λ l. omega (arith, l, f .1), sym (f .0)), λ f. (sym (f .1), omega (arith, f .0)));
     }
 
 -- Behind a head that is there, records that are all there end within the bytes.
-pub end-room : (n : ℕ) (bytes : List ℕ) → nowsAt 0 ≤ length bytes → AllThere Nw bytes (nowsAt 0) n → AllThere Gl bytes (goalsAt 0 n) n
-    → endAt 0 n ≤ length bytes
-end-room n bytes head nows goals = all-room Gl bytes (goalsAt 0 n) n (all-room Nw bytes (nowsAt 0) n head nows) goals
+pub end-room : (n k : ℕ) (bytes : List ℕ) → nowsAt 0 ≤ length bytes → AllThere Nw bytes (nowsAt 0) n → AllThere Gl bytes (goalsAt 0 n) n
+    → AllThere Ln bytes (lengthsAt 0 n) k → endAt 0 n k ≤ length bytes
+end-room n k bytes head nows goals lengths =
+    all-room Ln bytes (lengthsAt 0 n) k (all-room Gl bytes (goalsAt 0 n) n (all-room Nw bytes (nowsAt 0) n head nows) goals) lengths
 
 pub method-reflects : (m : ℕ) → Reflects (IsMethod m) (isMethod (methodOf m))
 unfolding asksMethod
@@ -68,36 +75,36 @@ method-reflects m = method-decided m .decides
 
 -- ---- a sheet
 
-module _ (n : ℕ) (bytes : List ℕ) where
-  abbrev s : List ℕ
-  s = nows bytes 0 n
-
-  abbrev g : List ℕ
-  g = goals bytes 0 n
-
+module _ (t : Bool) (n : ℕ) (bytes : List ℕ) where
   -- the questions between 1 and planning's
   abbrev pub middle : List Question
-  middle = asksSize n ∷ recordQuestions n bytes
+  middle = asksSize n ∷ recordQuestions t n bytes
 
   pub middle-decides : Decides middle
-  middle-decides = (size-decided n, λ _. (nows-decided n bytes, λ _. (goals-decided n bytes, λ _. (tail-decided n (length bytes), λ _. tt))))
+  middle-decides =
+      let k = lengthCount t n in
+      let tail = tail-decided n k (length bytes) in
+      (size-decided n, λ _. (nows-decided n bytes, λ _. (goals-decided n bytes, λ _. (lengths-decided n k bytes, λ _. (tail, λ _. tt)))))
 
-module _ (n m : ℕ) (bytes : List ℕ) where
+module _ (t : Bool) (n m : ℕ) (bytes : List ℕ) where
   abbrev asked : List Question
-  asked = planQuestions m (s n bytes) (g n bytes) (lent n)
+  asked = planQuestionsWith (lengthsOf t n bytes) m (nows bytes 0 n) (goals bytes 0 n) (lent n)
 
-  pub sheet-decides : Decides (sheetQuestions n m bytes)
+  pub asked-decides : Decides asked
+  asked-decides = plan-decides (lengthsOf t n bytes) m (nows bytes 0 n) (goals bytes 0 n) (lent n)
+
+  pub sheet-decides : Decides (sheetQuestions t n m bytes)
   unfolding sheetQuestions
-  sheet-decides = (method-decided m, λ _. decides-append (middle n bytes) asked (middle-decides n bytes) (λ _. plan-decides m (s n bytes) (g n bytes) (lent n)))
+  sheet-decides = (method-decided m, λ _. decides-append (middle t n bytes) asked (middle-decides t n bytes) (λ _. asked-decides))
 
   -- all yes, or a "no" of number k and place p, exactly where the sentences say so
-  pub sheet-accepts : (firstNo (sheetQuestions n m bytes) ≡ allYes) ↔ AllYes (sheetQuestions n m bytes)
-  sheet-accepts = first-no (sheetQuestions n m bytes) sheet-decides allYes
+  pub sheet-accepts : (firstNo (sheetQuestions t n m bytes) ≡ allYes) ↔ AllYes (sheetQuestions t n m bytes)
+  sheet-accepts = first-no (sheetQuestions t n m bytes) sheet-decides allYes
 
-  pub sheet-refuses : (k p : ℕ) → (firstNo (sheetQuestions n m bytes) ≡ no′ k p) ↔ FirstNo (sheetQuestions n m bytes) k p
-  sheet-refuses k p = first-no (sheetQuestions n m bytes) sheet-decides (no′ k p)
+  pub sheet-refuses : (k p : ℕ) → (firstNo (sheetQuestions t n m bytes) ≡ no′ k p) ↔ FirstNo (sheetQuestions t n m bytes) k p
+  sheet-refuses k p = first-no (sheetQuestions t n m bytes) sheet-decides (no′ k p)
 
   -- planning is answered yes where the sheet is
-  pub plan-yes : firstNo (sheetQuestions n m bytes) ≡ allYes → firstNo asked ≡ allYes
+  pub plan-yes : firstNo (sheetQuestions t n m bytes) ≡ allYes → firstNo asked ≡ allYes
   unfolding sheetQuestions
-  plan-yes e = first-no asked (plan-decides m (s n bytes) (g n bytes) (lent n)) allYes .1 (sheet-accepts .0 e .1 .1 .1 .1 .1)
+  plan-yes e = first-no asked asked-decides allYes .1 (sheet-accepts .0 e .1 .1 .1 .1 .1 .1)

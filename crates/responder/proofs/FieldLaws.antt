@@ -1,14 +1,16 @@
--- Every field of an answer fits two bytes, so an answer is bytes: slabs and destinations are at most 4,000, counts at most 8,000, places at most 8,001.
+-- Every field of an answer fits two bytes, so an answer is bytes: slabs and destinations are at most 4,000, counts at most 8,000, places at most 12,001.
 -- Assumes nothing.
 use Prim.Native.Nat.{ℕ, _+_, _*_, _≤_, _<_}
 use mathlib.Core.Logic.{_⊎_, inl, inr}
 use mathlib.Core.List.{List, [], _∷_, _++_}
+use mathlib.Core.Option.{none, some}
 use native.Mathlib.Omega.{arith}
 use lib.ListN.{length}
 use Rattle.blocks.specs.State.{State, most, put}
 use Rattle.blocks.specs.Move.{_⟶_, Plan, LegalPlan}
 use Rattle.blocks.specs.Method.{planOutcome}
 use Rattle.blocks.specs.Question.{Question, AllYes, FirstNo, asksMethod, asksSize, asksOutside, asksShared, asksFloating, asksPlan, stateQuestions}
+use Rattle.blocks.specs.Length.{Lengths, asksOverhang, overhangQuestions}
 use Rattle.blocks.proofs.StateLaws.{length-put}
 use Rattle.blocks.proofs.QuestionLaws.{sentence-append}
 use Rattle.records.specs.Records.{recordBytes}
@@ -17,8 +19,9 @@ use Rattle.records.specs.declared.Kind.{Kind}
 use Rattle.records.specs.declared.Kind.the-variants.{Pl, Lf, No}
 use Rattle.records.proofs.RoundTrip.{round-trip, small-nil, small-append}
 use Rattle.sheets.specs.Sheets.{nows, goals}
+use Rattle.sheets.proofs.PlaceLaws.{length-count-le}
 use Rattle.sheets.proofs.SheetLaws.{nows-le, goals-le}
-use Rattle.responder.specs.Responses.{asksNows, asksGoals, asksTail, recordQuestions, refusalBytes, moveBytes, planBytes}
+use Rattle.responder.specs.Responses.{asksNows, asksGoals, asksLengthRecords, asksTail, recordQuestions, lengthsOf, refusalBytes, moveBytes, planBytes}
 use Rattle.responder.specs.Order.{fourOn}
 use Rattle.responder.specs.Refusals.{ProgramRefused}
 
@@ -42,19 +45,29 @@ plan-bytes c d p s few less small legal = small-append (recordBytes Pl (c ∷ d 
 
 -- A number and a place that a record NO can say.
 abbrev Sayable : ℕ → ℕ → Type 0
-Sayable k p = (k ≤ 13) × (p ≤ 2 * most + 1)
+Sayable k p = (k ≤ 18) × (p ≤ 3 * most + 1)
 
-state-sayable : {k₁ k₂ k₃ : ℕ} (s : State) (k p : ℕ) → k₁ ≤ 13 → k₂ ≤ 13 → k₃ ≤ 13 → length s ≤ most → FirstNo (stateQuestions k₁ k₂ k₃ s) k p → Sayable k p
+state-sayable : {k₁ k₂ k₃ : ℕ} (s : State) (k p : ℕ) → k₁ ≤ 18 → k₂ ≤ 18 → k₃ ≤ 18 → length s ≤ most → FirstNo (stateQuestions k₁ k₂ k₃ s) k p → Sayable k p
 unfolding stateQuestions asksOutside asksShared asksFloating
 state-sayable s k p h₁ h₂ h₃ small (inl (e, f)) = (omega arith, omega (arith, f .high))
 state-sayable s k p h₁ h₂ h₃ small (inr (_, inl (e, f))) = (omega arith, omega (arith, f .high))
 state-sayable s k p h₁ h₂ h₃ small (inr (_, inr (_, inl (e, f)))) = (omega arith, omega (arith, f .high))
 state-sayable s k p h₁ h₂ h₃ small (inr (_, inr (_, inr (_, f)))) = absurd f
 
-four-sayable : (m : ℕ) (s g : State) (k p : ℕ) → length s ≤ most → length g ≤ most → FirstNo (fourOn m s g) k p → Sayable k p
+overhang-sayable : (ls : Lengths) (s g : State) (k p : ℕ) → length s ≤ most → length g ≤ most → FirstNo (overhangQuestions ls s g) k p → Sayable k p
+unfolding overhangQuestions asksOverhang
+overhang-sayable none s g k p small even f = absurd f
+overhang-sayable (some l) s g k p small even (inl (e, f)) = (omega arith, omega (arith, f .high))
+overhang-sayable (some l) s g k p small even (inr (_, inl (e, f))) = (omega arith, omega (arith, f .high))
+overhang-sayable (some l) s g k p small even (inr (_, inr (_, f))) = absurd f
+
+four-sayable : (m : ℕ) (ls : Lengths) (s g : State) (k p : ℕ) → length s ≤ most → length g ≤ most → FirstNo (fourOn m ls s g) k p → Sayable k p
 unfolding asksPlan
-four-sayable m s g k p small even f = first (sentence-append (stateQuestions 4 5 6 s) (stateQuestions 7 8 9 g ++ last) k p .0 f)
+four-sayable m ls s g k p small even f = first (sentence-append (stateQuestions 4 5 6 s) (stateQuestions 7 8 9 g ++ (over ++ last)) k p .0 f)
   where
+    over : List Question
+    over = overhangQuestions ls s g
+
     last : List Question
     last = asksPlan (planOutcome m s g) ∷ []
 
@@ -62,27 +75,34 @@ four-sayable m s g k p small even f = first (sentence-append (stateQuestions 4 5
     thirteen (inl (e, (place, _))) = (omega arith, omega arith)
     thirteen (inr (_, f)) = absurd f
 
-    second : FirstNo (stateQuestions 7 8 9 g) k p ⊎ (AllYes (stateQuestions 7 8 9 g) × FirstNo last k p) → Sayable k p
-    second (inl f) = state-sayable g k p (omega arith) (omega arith) (omega arith) even f
-    second (inr (_, f)) = thirteen f
+    third : FirstNo over k p ⊎ (AllYes over × FirstNo last k p) → Sayable k p
+    third (inl f) = overhang-sayable ls s g k p small even f
+    third (inr (_, f)) = thirteen f
 
-    first : FirstNo (stateQuestions 4 5 6 s) k p ⊎ (AllYes (stateQuestions 4 5 6 s) × FirstNo (stateQuestions 7 8 9 g ++ last) k p) → Sayable k p
+    second : FirstNo (stateQuestions 7 8 9 g) k p ⊎ (AllYes (stateQuestions 7 8 9 g) × FirstNo (over ++ last) k p) → Sayable k p
+    second (inl f) = state-sayable g k p (omega arith) (omega arith) (omega arith) even f
+    second (inr (_, f)) = third (sentence-append over last k p .0 f)
+
+    first : FirstNo (stateQuestions 4 5 6 s) k p ⊎ (AllYes (stateQuestions 4 5 6 s) × FirstNo (stateQuestions 7 8 9 g ++ (over ++ last)) k p) → Sayable k p
     first (inl f) = state-sayable s k p (omega arith) (omega arith) (omega arith) small f
-    first (inr (_, f)) = second (sentence-append (stateQuestions 7 8 9 g) last k p .0 f)
+    first (inr (_, f)) = second (sentence-append (stateQuestions 7 8 9 g) (over ++ last) k p .0 f)
 
 refused-sayable : (bytes : List ℕ) (k p : ℕ) → ProgramRefused bytes k p → Sayable k p
-unfolding asksMethod asksSize asksNows asksGoals asksTail
+unfolding asksMethod asksSize asksNows asksGoals asksLengthRecords asksTail
 refused-sayable bytes k p (ProgramRefused.head _ number place) = (omega arith, omega arith)
-refused-sayable bytes k p (ProgramRefused.behind n m _ (inl (e, (place, _)))) = (omega arith, omega arith)
-refused-sayable bytes k p (ProgramRefused.behind n m _ (inr (_, inl (e, (place, _))))) = (omega arith, omega arith)
-refused-sayable bytes k p (ProgramRefused.behind n m _ (inr (_, inr (small, rest)))) = by rest
+refused-sayable bytes k p (ProgramRefused.behind t n m _ (inl (e, (place, _)))) = (omega arith, omega arith)
+refused-sayable bytes k p (ProgramRefused.behind t n m _ (inr (_, inl (e, (place, _))))) = (omega arith, omega arith)
+refused-sayable bytes k p (ProgramRefused.behind t n m _ (inr (_, inr (small, rest)))) = by rest
   where
-    by : FirstNo (recordQuestions n bytes ++ fourOn m (nows bytes 0 n) (goals bytes 0 n)) k p → Sayable k p
+    by : FirstNo (recordQuestions t n bytes ++ fourOn m (lengthsOf t n bytes) (nows bytes 0 n) (goals bytes 0 n)) k p → Sayable k p
     by (inl (e, (i, w, place))) = (omega arith, omega (arith, w .within))
     by (inr (_, inl (e, (i, w, place)))) = (omega arith, omega (arith, w .within))
-    by (inr (_, inr (_, inl (e, (place, _))))) = (omega arith, omega arith)
-    by (inr (_, inr (_, inr (_, f)))) =
-        four-sayable m (nows bytes 0 n) (goals bytes 0 n) k p (omega (arith, nows-le bytes 0 n)) (omega (arith, goals-le bytes 0 n)) f
+    by (inr (_, inr (_, inl (e, (i, w, place))))) = (omega arith, omega (arith, w .within, length-count-le t n))
+    by (inr (_, inr (_, inr (_, inl (e, (place, _)))))) = (omega arith, omega (arith, length-count-le t n))
+    by (inr (_, inr (_, inr (_, inr (_, f))))) =
+        let few : length (nows bytes 0 n) ≤ most = omega (arith, nows-le bytes 0 n) in
+        let fewer : length (goals bytes 0 n) ≤ most = omega (arith, goals-le bytes 0 n) in
+        four-sayable m (lengthsOf t n bytes) (nows bytes 0 n) (goals bytes 0 n) k p few fewer f
 
 pub refusal-bytes : (bytes : List ℕ) (k p : ℕ) → ProgramRefused bytes k p → Bytes (refusalBytes k p)
 refusal-bytes bytes k p r = let h = refused-sayable bytes k p r in record-bytes No k p (omega (arith, h .0)) (omega (arith, h .1))

@@ -15,17 +15,16 @@ use Rattle.blocks.specs.Question.{IsMethod, isMethod}
 use Rattle.lists.proofs.ReflectLaws.{Reflects, holds, fails, decided, not-not, to-true, leb-reflects, ltb-reflects}
 use Rattle.planner.specs.declared.Planned.{Planned}
 use Rattle.records.specs.Marks.{marks, markOf, size}
-use Rattle.records.specs.Records.{recordAt}
-use Rattle.records.specs.declared.Kind.the-variants.{Hd, Nw, Gl}
-use Rattle.records.specs.declared.Found.{Found}
-use Rattle.records.specs.declared.Found.the-variants.{Record, Missing}
+use Rattle.records.specs.declared.Kind.the-variants.{Hd, Nw, Gl, Hl, Ln}
 use Rattle.records.proofs.ReadLaws.{found-room}
+use Rattle.sheets.specs.declared.Head.{Head}
+use Rattle.sheets.specs.declared.Head.the-variants.{Missing, There}
 use Rattle.sheets.specs.declared.Sheet.{Sheet}
 use Rattle.sheets.specs.declared.Sheet.the-variants.{Headless, Long, Broken, Whole}
-use Rattle.sheets.specs.Sheets.{nowsAt, goalsAt, endAt, nows, goals, sheetAt}
-use Rattle.sheets.specs.Cases.{IsLong, NowMissing, GoalMissing, IsBroken, IsWhole, Says}
-use Rattle.sheets.proofs.PlaceLaws.{size-hd, end-at}
-use Rattle.sheets.proofs.HeadLaws.{long-sheet}
+use Rattle.sheets.specs.Sheets.{headKind, headAt, lengthCount, nowsAt, goalsAt, lengthsAt, endAt, nows, goals, lengths, sheetAt}
+use Rattle.sheets.specs.Cases.{IsLong, RecordMissing, IsBroken, IsWhole, Says}
+use Rattle.sheets.proofs.PlaceLaws.{size-hd, size-hl, length-count-le, end-at}
+use Rattle.sheets.proofs.HeadLaws.{head-record, record-head, no-record, no-head, head-room, long-sheet}
 use Rattle.sheets.proofs.SheetLaws.{sheet-says}
 use Rattle.responder.specs.Responses.{responseTo}
 use Rattle.responder.specs.Wanted.{decidedBy, wantedBy, wanted}
@@ -35,14 +34,18 @@ use Rattle.responder.proofs.DecidedLaws.{method-reflects}
 use Rattle.responder.proofs.AnsweredLaws.{Answered, headless-way, unnamed-way, long-way, broken-way, tail-way}
 use Rattle.responder.proofs.SizeLaws.{enough-is}
 
--- the end of a GL record by the records before it, and of a record that is not there
+-- the end of a GL record and of a LN record by the records before it, and of a record that is not there
 goal-ends : (n d p : ℕ) → p ≡ 1 + n + d → size Hd + p * size Nw ≡ goalsAt 0 n + suc d * size Gl
 unfolding markOf marks
 goal-ends n d p e = omega (arith, e)
 
-missing-ends : (n p : ℕ) → p ≤ 2 * n → size Hd + p * size Nw ≤ endAt 0 n + 1
+length-ends : (n d p : ℕ) → p ≡ 1 + n + n + d → size Hd + p * size Nw ≡ lengthsAt 0 n + suc d * size Ln
 unfolding markOf marks
-missing-ends n p l = omega arith
+length-ends n d p e = omega (arith, e)
+
+missing-ends : (n k p : ℕ) → p ≤ 2 * n + k → size Hd + p * size Nw ≤ endAt 0 n k + 1
+unfolding markOf marks
+missing-ends n k p l = omega arith
 
 module _ (bytes more : List ℕ) where
   abbrev all : List ℕ
@@ -50,38 +53,71 @@ module _ (bytes more : List ℕ) where
 
   -- ---- with more bytes behind, the head and the records that decide are as they were
 
-  pub head-stays : {n m : ℕ} → recordAt Hd bytes 0 ≡ Record n m → recordAt Hd all 0 ≡ Record n m
-  head-stays e = same-record bytes more Hd 0 (found-room Hd bytes 0 e) ∙ e
+  pub head-stays : {t : Bool} {n m : ℕ} → headAt bytes 0 ≡ There t n m → headAt all 0 ≡ There t n m
+  head-stays {t} e =
+      let f = head-record bytes 0 t e in
+      record-head all 0 t (same-record bytes more (headKind t) 0 (found-room (headKind t) bytes 0 f) ∙ f)
+
+  no-head-stays : headAt bytes 0 ≡ Missing → size Hd ≤ length bytes → headAt all 0 ≡ Missing
+  no-head-stays e h =
+      no-head all 0
+      (same-record bytes more Hd 0 (omega (arith, h)) ∙ no-record bytes 0 e false)
+      (same-record bytes more Hl 0 (omega (arith, h, size-hl)) ∙ no-record bytes 0 e true)
 
   long-stays : {m : ℕ} → IsLong bytes 0 m → IsLong all 0 m
-  long-stays w = record { n = w .n; head = head-stays (w .head); long = w .long }
+  long-stays w = record { measured = w .measured; n = w .n; head = head-stays (w .head); long = w .long }
 
   pub nows-stay : (n : ℕ) → goalsAt 0 n ≤ length bytes → nows all 0 n ≡ nows bytes 0 n
   nows-stay n h = same-entries bytes more Nw n n (nowsAt 0) (omega arith) h
 
-  broken-stays : {m p : ℕ} → IsBroken bytes 0 m p → size Hd + p * size Nw ≤ length bytes → IsBroken all 0 m p
-  broken-stays {m} {p} w h = record { n = w .n; head = head-stays (w .head); small = w .small; missing = by (w .missing) }
-    where
-      by : NowMissing bytes 0 (w .n) p ⊎ GoalMissing bytes 0 (w .n) p → NowMissing all 0 (w .n) p ⊎ GoalMissing all 0 (w .n) p
-      by (inl f) =
-          let same : nows all 0 (w .n) ≡ nows bytes 0 (w .n) = same-entries bytes more Nw (w .n) p (nowsAt 0) (omega (arith, f .place)) (omega (arith, h)) in
-          inl (record { few = rw same (f .few); place = rw same (f .place) })
-      by (inr f) =
-          let d : ℕ = length (goals bytes 0 (w .n)) in
-          let ends : size Hd + p * size Nw ≡ goalsAt 0 (w .n) + suc d * size Gl = goal-ends (w .n) d p (f .place) in
-          let same-nows : nows all 0 (w .n) ≡ nows bytes 0 (w .n) = nows-stay (w .n) (omega (arith, ends)) in
-          let same : goals all 0 (w .n) ≡ goals bytes 0 (w .n) = same-entries bytes more Gl (w .n) (suc d) (goalsAt 0 (w .n)) (omega arith) (omega (arith, ends)) in
-          inr (record { nows-there = rw same-nows (f .nows-there); few = rw same (f .few); place = rw same (f .place) })
+  pub goals-stay : (n : ℕ) → lengthsAt 0 n ≤ length bytes → goals all 0 n ≡ goals bytes 0 n
+  goals-stay n h = same-entries bytes more Gl n n (goalsAt 0 n) (omega arith) h
 
-  pub whole-stays : {n m e : ℕ} → IsWhole bytes 0 n m e → e ≤ length bytes → IsWhole all 0 n m e
-  whole-stays {n} w h =
+  broken-stays : {m p : ℕ} → IsBroken bytes 0 m p → size Hd + p * size Nw ≤ length bytes → IsBroken all 0 m p
+  broken-stays {m} {p} w h = record { measured = t; n = n; head = head-stays (w .head); small = w .small; missing = by (w .missing) }
+    where
+      t : Bool
+      t = w .measured
+
+      n : ℕ
+      n = w .n
+
+      by : RecordMissing bytes 0 n (lengthCount t n) p → RecordMissing all 0 n (lengthCount t n) p
+      by (inl f) =
+          let same : nows all 0 n ≡ nows bytes 0 n = same-entries bytes more Nw n p (nowsAt 0) (omega (arith, f .place)) (omega (arith, h)) in
+          inl (record { few = rw same (f .few); place = rw same (f .place) })
+      by (inr (inl f)) =
+          let d : ℕ = length (goals bytes 0 n) in
+          let ends : size Hd + p * size Nw ≡ goalsAt 0 n + suc d * size Gl = goal-ends n d p (f .place) in
+          let same-nows : nows all 0 n ≡ nows bytes 0 n = nows-stay n (omega (arith, ends)) in
+          let same : goals all 0 n ≡ goals bytes 0 n = same-entries bytes more Gl n (suc d) (goalsAt 0 n) (omega arith) (omega (arith, ends)) in
+          inr (inl (record { nows-there = rw same-nows (f .nows-there); few = rw same (f .few); place = rw same (f .place) }))
+      by (inr (inr f)) =
+          let k : ℕ = lengthCount t n in
+          let d : ℕ = length (lengths bytes 0 n k) in
+          let ends : size Hd + p * size Nw ≡ lengthsAt 0 n + suc d * size Ln = length-ends n d p (f .place) in
+          let same-nows : nows all 0 n ≡ nows bytes 0 n = nows-stay n (omega (arith, ends)) in
+          let same-goals : goals all 0 n ≡ goals bytes 0 n = goals-stay n (omega (arith, ends)) in
+          let same : lengths all 0 n k ≡ lengths bytes 0 n k = same-entries bytes more Ln k (suc d) (lengthsAt 0 n) (omega arith) (omega (arith, ends)) in
+          inr (inr (record {
+            nows-there = rw same-nows (f .nows-there);
+            goals-there = rw same-goals (f .goals-there);
+            few = rw same (f .few);
+            place = rw same (f .place);
+          }))
+
+  pub whole-stays : {n m : ℕ} {t : Bool} {e : ℕ} → IsWhole bytes 0 n m t e → e ≤ length bytes → IsWhole all 0 n m t e
+  whole-stays {n} {t = t} w h =
+      let k : ℕ = lengthCount t n in
       let same-nows : nows all 0 n ≡ nows bytes 0 n = nows-stay n (omega (arith, w .end)) in
-      let same : goals all 0 n ≡ goals bytes 0 n = same-entries bytes more Gl n n (goalsAt 0 n) (omega arith) (omega (arith, w .end)) in
+      let same-goals : goals all 0 n ≡ goals bytes 0 n = goals-stay n (omega (arith, w .end)) in
+      let same : lengths all 0 n k ≡ lengths bytes 0 n k = same-entries bytes more Ln k k (lengthsAt 0 n) (omega arith) (omega (arith, w .end)) in
       record {
         head = head-stays (w .head);
         small = w .small;
         nows-there = ap length same-nows ∙ w .nows-there;
-        goals-there = ap length same ∙ w .goals-there;
+        goals-there = ap length same-goals ∙ w .goals-there;
+        lengths-there = ap length same ∙ w .lengths-there;
         end = w .end;
       }
 
@@ -92,44 +128,46 @@ module _ (bytes more : List ℕ) where
 
   module _ (none : wanted bytes ≡ 0) where
     -- behind a head with a method so many bytes are there
-    there : {n m d : ℕ} → recordAt Hd bytes 0 ≡ Record n m → IsMethod m → decidedBy (sheetAt bytes 0) ≡ d → d ≤ endAt 0 n + 1 → d ≤ length bytes
+    there : {t : Bool} {n m d : ℕ} → headAt bytes 0 ≡ There t n m → IsMethod m → decidedBy (sheetAt bytes 0) ≡ d → d ≤ endAt 0 n (lengthCount t n) + 1
+        → d ≤ length bytes
     unfolding wanted
-    there {n} {m} {d} e i is l =
+    there {t} {n} {m} {d} e i is l =
         by (isMethod (methodOf m)) (to-true (method-reflects m) i) (ltb-reflects (length bytes) (decidedBy (sheetAt bytes 0)))
         (ap (λ f. wantedBy f bytes) (sym e) ∙ none)
       where
-        by : (t : Bool) {u : Bool} → t ≡ true → Reflects (length bytes < decidedBy (sheetAt bytes 0)) u → cond (t && u) (endAt 0 n + 1 - length bytes) 0 ≡ 0
-            → d ≤ length bytes
+        by : (a : Bool) {u : Bool} → a ≡ true → Reflects (length bytes < decidedBy (sheetAt bytes 0)) u
+            → cond (a && u) (endAt 0 n (lengthCount t n) + 1 - length bytes) 0 ≡ 0 → d ≤ length bytes
         by true f (holds h) z = omega (arith, h, is, l, z)
         by true f (fails h) z = omega (arith, h, is)
         by false f r z = absurd (false≢true f)
 
-    headless-there : recordAt Hd bytes 0 ≡ Missing → size Hd ≤ length bytes
+    headless-there : headAt bytes 0 ≡ Missing → size Hd ≤ length bytes
     unfolding wanted
     headless-there e = let z : size Hd - length bytes ≡ 0 = ap (λ f. wantedBy f bytes) (sym e) ∙ none in omega (arith, z)
 
     -- without a method question 1 is answered no
-    named : {n m : ℕ} → recordAt Hd bytes 0 ≡ Record n m → (IsMethod m → responseTo all ≡ responseTo bytes) → responseTo all ≡ responseTo bytes
-    named {n} {m} e f = by (decided (method-reflects m))
+    named : {t : Bool} {n m : ℕ} → headAt bytes 0 ≡ There t n m → (IsMethod m → responseTo all ≡ responseTo bytes) → responseTo all ≡ responseTo bytes
+    named {t} {n} {m} e f = by (decided (method-reflects m))
       where
         by : IsMethod m ⊎ (¬ IsMethod m) → responseTo all ≡ responseTo bytes
         by (inl i) = f i
         by (inr i) = same-answer (unnamed-way all (head-stays e) [] i) (unnamed-way bytes e [] i)
 
-    broken-size : {m p : ℕ} (w : IsBroken bytes 0 m p) → p ≤ 2 * w .n
+    broken-size : {m p : ℕ} (w : IsBroken bytes 0 m p) → p ≤ 2 * w .n + lengthCount (w .measured) (w .n)
     broken-size {m} {p} w = by (w .missing)
       where
-        by : NowMissing bytes 0 (w .n) p ⊎ GoalMissing bytes 0 (w .n) p → p ≤ 2 * w .n
+        by : RecordMissing bytes 0 (w .n) (lengthCount (w .measured) (w .n)) p → p ≤ 2 * w .n + lengthCount (w .measured) (w .n)
         by (inl f) = omega (arith, f .place, f .few)
-        by (inr f) = omega (arith, f .place, f .few)
+        by (inr (inl f)) = omega (arith, f .place, f .few)
+        by (inr (inr f)) = omega (arith, f .place, f .few)
 
     same : (s : Sheet) → sheetAt bytes 0 ≡ s → Says bytes 0 s → responseTo all ≡ responseTo bytes
-    same Headless e w = same-answer (headless-way [] (same-record bytes more Hd 0 (omega (arith, headless-there w)) ∙ w) refl) (headless-way [] w refl)
+    same Headless e w = same-answer (headless-way [] (no-head-stays w (headless-there w)) refl) (headless-way [] w refl)
     same (Long m) e w = same-answer (long-way [] (long-stays w) refl) (long-way [] w refl)
     same (Broken m p) e w = named (w .head) (λ i.
-        let h = there (w .head) i (ap decidedBy e) (missing-ends (w .n) p (broken-size w)) in
+        let h = there (w .head) i (ap decidedBy e) (missing-ends (w .n) (lengthCount (w .measured) (w .n)) p (broken-size w)) in
         same-answer (broken-way [] (broken-stays w h) refl) (broken-way [] w refl))
-    same (Whole n m end) e w = named (w .head) (λ i.
+    same (Whole n m t end) e w = named (w .head) (λ i.
         let h = there (w .head) i (ap decidedBy e) (omega (arith, w .end)) in
         same-answer
         (tail-way (whole-stays w (omega (arith, h))) [] (λ f. omega (arith, f, h, length-append bytes more)) refl)
@@ -138,21 +176,22 @@ module _ (bytes more : List ℕ) where
 pub decides : Decides
 decides bytes more none = same bytes more none (sheetAt bytes 0) refl (sheet-says bytes 0)
 
--- ---- never more than fill 32,007 bytes: a head that says more slabs than the limit decides
+-- ---- never more than fill 48,007 bytes: a head that says more slabs than the limit decides
 
 pub wanted-bounded : WantedBounded
 unfolding wanted
-wanted-bounded bytes l = by (recordAt Hd bytes 0) refl
+wanted-bounded bytes l = by (headAt bytes 0) refl
   where
-    by : (f : Found) → recordAt Hd bytes 0 ≡ f → length bytes + wantedBy f bytes ≤ enough
+    by : (h : Head) → headAt bytes 0 ≡ h → length bytes + wantedBy h bytes ≤ enough
     by Missing e = omega (arith, size-hd, enough-is)
-    by (Record n m) e = behind (isMethod (methodOf m)) (ltb-reflects (length bytes) (decidedBy (sheetAt bytes 0)))
+    by (There t n m) e = behind (isMethod (methodOf m)) (ltb-reflects (length bytes) (decidedBy (sheetAt bytes 0)))
       where
         small : length bytes < decidedBy (sheetAt bytes 0) → n ≤ most
-        small h = not-not (leb-reflects n most) (λ k. omega (arith, h, found-room Hd bytes 0 e, ap decidedBy (long-sheet bytes 0 e (omega (arith, k)))))
+        small h = not-not (leb-reflects n most) (λ k. omega (arith, h, head-room bytes 0 e, ap decidedBy (long-sheet bytes 0 e (omega (arith, k)))))
 
-        behind : (t : Bool) {u : Bool} → Reflects (length bytes < decidedBy (sheetAt bytes 0)) u → length bytes + cond (t && u) (endAt 0 n + 1 - length bytes) 0 ≤ enough
-        behind true (holds h) = omega (arith, small h, end-at 0 n, enough-is)
+        behind : (a : Bool) {u : Bool} → Reflects (length bytes < decidedBy (sheetAt bytes 0)) u
+            → length bytes + cond (a && u) (endAt 0 n (lengthCount t n) + 1 - length bytes) 0 ≤ enough
+        behind true (holds h) = omega (arith, small h, length-count-le t n, end-at 0 n (lengthCount t n), enough-is)
         behind true (fails h) = omega arith
         behind false (holds h) = omega arith
         behind false (fails h) = omega arith
@@ -163,16 +202,17 @@ unfolding wanted
 wanted-within bytes =
     record {
       head = λ e. let same = ap (λ f. wantedBy f bytes) e in omega (arith, same);
-      sheet = λ n m e.
+      sheet = λ t n m e.
           let same = ap (λ f. wantedBy f bytes) e in
-          omega (arith, same, some-or-none n (isMethod (methodOf m) && ltb (length bytes) (decidedBy (sheetAt bytes 0))));
+          let rest = endAt 0 n (lengthCount t n) + 1 - length bytes in
+          omega (arith, same, some-or-none rest (isMethod (methodOf m) && ltb (length bytes) (decidedBy (sheetAt bytes 0))));
     }
   where
-    some-or-none : (n : ℕ) (t : Bool) → cond t (endAt 0 n + 1 - length bytes) 0 ≤ endAt 0 n + 1 - length bytes
-    some-or-none n true = omega arith
-    some-or-none n false = omega arith
+    some-or-none : (r : ℕ) (t : Bool) → cond t r 0 ≤ r
+    some-or-none r true = omega arith
+    some-or-none r false = omega arith
 
--- so 32,007 bytes decide
+-- so 48,007 bytes decide
 pub input-bound : Enough
 input-bound bytes = by (decided (leb-reflects (length bytes) enough))
   where

@@ -16,3 +16,4 @@ pub mod InputBound
 pub mod Needed
 pub mod AnswerBound
 pub mod Example
+pub mod Plain

@@ -1,46 +1,66 @@
 -- The questions in document 01's order: where those of the records are all yes, planning asks 4 on. Assumes nothing.
 use Prim.Native.Nat.{ℕ, _*_, _≤_}
 use mathlib.Core.Path.{_≡_, refl, sym, _∙_, ap}
+use mathlib.Core.Bool.{Bool, true, false}
 use mathlib.Core.List.{List, [], _∷_, _++_, append-assoc}
+use mathlib.Core.Option.{none, some}
 use native.Mathlib.Omega.{arith}
 use lib.ListN.{length, length-replicate}
 use Rattle.blocks.specs.State.{State, most}
 use Rattle.blocks.specs.Question.{Question, allYes, firstNo, numbers, IsMethod, asksMethod, asksSize, asksSame, asksOutside, asksShared, asksFloating}
-use Rattle.blocks.specs.Question.{asksPlan, stateQuestions, problemQuestions, planQuestions}
+use Rattle.blocks.specs.Question.{asksPlan, stateQuestions, problemQuestions}
 use Rattle.blocks.specs.Method.{planOutcome}
+use Rattle.blocks.specs.Length.{Lengths, asksLengths, asksOverhang, overhangQuestions, lengthQuestions, Counted}
+use Rattle.blocks.specs.With.{problemQuestionsWith, planQuestionsWith}
 use Rattle.blocks.proofs.QuestionLaws.{first-no}
 use Rattle.blocks.proofs.DecidedLaws.{method-decided, size-decided, same-decided}
-use Rattle.records.specs.declared.Kind.the-variants.{Nw, Gl}
+use Rattle.blocks.proofs.LengthLaws.{count-decided}
+use Rattle.records.specs.declared.Kind.the-variants.{Nw, Gl, Ln}
 use Rattle.records.proofs.ThereLaws.{all-there}
-use Rattle.sheets.specs.Sheets.{nowsAt, goalsAt, nows, goals}
-use Rattle.responder.specs.Responses.{asksNows, asksGoals, asksTail, lent, sheetQuestions}
+use Rattle.sheets.specs.Sheets.{lengthCount, nowsAt, goalsAt, lengthsAt, nows, goals, lengths}
+use Rattle.responder.specs.Responses.{asksNows, asksGoals, asksLengthRecords, asksTail, lengthsOf, lent, sheetQuestions}
 use Rattle.responder.specs.Order.{fourOn, orderedQuestions, InOrder}
 use Rattle.responder.proofs.BehindLaws.{same-behind, without-yes, without-room}
 use Rattle.responder.proofs.DecidedLaws.{middle, middle-decides}
 
--- 1, 2, 3 and 10 with a yes are left out
-four-on : (m : ℕ) (s g : State) (space : List ℕ) → IsMethod m → length s ≤ most → length g ≡ length s → 4 * length s ≤ length space
-    → firstNo (planQuestions m s g space) ≡ firstNo (fourOn m s g)
-unfolding problemQuestions asksMethod asksSize asksSame
-four-on m s g space method small even room =
+-- 16 with a yes is left out
+without-count : (qs : List Question) (ls : Lengths) (s g : State) (rs : List Question) → Counted ls s
+    → firstNo (qs ++ (lengthQuestions ls s g ++ rs)) ≡ firstNo (qs ++ (overhangQuestions ls s g ++ rs))
+unfolding lengthQuestions overhangQuestions asksLengths
+without-count qs none s g rs count = refl
+without-count qs (some l) s g rs count = without-yes qs (asksLengths l s ∷ []) (overhangQuestions (some l) s g ++ rs) (count-decided l s, λ _. tt) (count, tt)
+
+-- 1, 2, 3, 16 and 10 with a yes are left out
+four-on : (ls : Lengths) (m : ℕ) (s g : State) (space : List ℕ) → IsMethod m → length s ≤ most → length g ≡ length s → Counted ls s
+    → 4 * length s ≤ length space → firstNo (planQuestionsWith ls m s g space) ≡ firstNo (fourOn m ls s g)
+unfolding problemQuestionsWith problemQuestions asksMethod asksSize asksSame
+four-on ls m s g space method small even count room =
     let last = asksPlan (planOutcome m s g) ∷ [] in
     let states = stateQuestions 4 5 6 s ++ stateQuestions 7 8 9 g in
-    without-room m s g space room
+    without-room ls m s g space room
     ∙ without-yes
     []
     (asksMethod m ∷ asksSize (length s) ∷ asksSame s g ∷ [])
-    (states ++ last)
+    ((states ++ lengthQuestions ls s g) ++ last)
     (method-decided m, λ _. (size-decided (length s), λ _. (same-decided s g, λ _. tt)))
     (method, (small, (even, tt)))
-    ∙ ap firstNo (append-assoc (stateQuestions 4 5 6 s) (stateQuestions 7 8 9 g) last)
+    ∙ ap firstNo (append-assoc states (lengthQuestions ls s g) last)
+    ∙ without-count states ls s g last count
+    ∙ ap firstNo (append-assoc (stateQuestions 4 5 6 s) (stateQuestions 7 8 9 g) (overhangQuestions ls s g ++ last))
 
-pub sheet-order : (n m : ℕ) (bytes : List ℕ) → numbers (orderedQuestions n m bytes) ≡ 1 ∷ 2 ∷ 12 ∷ 12 ∷ 12 ∷ 4 ∷ 5 ∷ 6 ∷ 7 ∷ 8 ∷ 9 ∷ 13 ∷ []
-unfolding asksMethod asksSize asksNows asksGoals asksTail stateQuestions asksOutside asksShared asksFloating asksPlan
+pub sheet-order : (n m : ℕ) (bytes : List ℕ) → numbers (orderedQuestions false n m bytes) ≡ 1 ∷ 2 ∷ 12 ∷ 12 ∷ 12 ∷ 12 ∷ 4 ∷ 5 ∷ 6 ∷ 7 ∷ 8 ∷ 9 ∷ 13 ∷ []
+unfolding asksMethod asksSize asksNows asksGoals asksLengthRecords asksTail stateQuestions asksOutside asksShared asksFloating overhangQuestions asksPlan
 sheet-order n m bytes = refl
 
+pub measured-order : (n m : ℕ) (bytes : List ℕ)
+    → numbers (orderedQuestions true n m bytes) ≡ 1 ∷ 2 ∷ 12 ∷ 12 ∷ 12 ∷ 12 ∷ 4 ∷ 5 ∷ 6 ∷ 7 ∷ 8 ∷ 9 ∷ 17 ∷ 18 ∷ 13 ∷ []
+unfolding asksMethod asksSize asksNows asksGoals asksLengthRecords asksTail stateQuestions asksOutside asksShared asksFloating overhangQuestions asksOverhang
+    asksPlan
+measured-order n m bytes = refl
+
 pub in-order : InOrder
-unfolding sheetQuestions asksMethod asksSize asksNows asksGoals asksTail
-in-order n m bytes = same-behind before (planQuestions m s g (lent n)) (fourOn m s g) then-four
+unfolding sheetQuestions asksMethod asksSize asksNows asksGoals asksLengthRecords asksTail
+in-order t n m bytes = same-behind before (planQuestionsWith (lengthsOf t n bytes) m s g (lent n)) (fourOn m (lengthsOf t n bytes) s g) then-four
   where
     s : State
     s = nows bytes 0 n
@@ -49,11 +69,17 @@ in-order n m bytes = same-behind before (planQuestions m s g (lent n)) (fourOn m
     g = goals bytes 0 n
 
     before : List Question
-    before = asksMethod m ∷ middle n bytes
+    before = asksMethod m ∷ middle t n bytes
 
-    then-four : firstNo before ≡ allYes → firstNo (planQuestions m s g (lent n)) ≡ firstNo (fourOn m s g)
+    counted : (u : Bool) → length s ≡ n → length (lengths bytes 0 n (lengthCount u n)) ≡ lengthCount u n → Counted (lengthsOf u n bytes) s
+    counted true long all = all ∙ sym long
+    counted false long all = tt
+
+    then-four : firstNo before ≡ allYes → firstNo (planQuestionsWith (lengthsOf t n bytes) m s g (lent n)) ≡ firstNo (fourOn m (lengthsOf t n bytes) s g)
     then-four e =
-        let y = first-no before (method-decided m, λ _. middle-decides n bytes) allYes .0 e in
+        let y = first-no before (method-decided m, λ _. middle-decides t n bytes) allYes .0 e in
         let small : n ≤ most = y .1 .0 in
         let long : length s ≡ n = all-there Nw bytes (nowsAt 0) n .1 (y .1 .1 .0) in
-        four-on m s g (lent n) (y .0) (omega arith) (all-there Gl bytes (goalsAt 0 n) n .1 (y .1 .1 .1 .0) ∙ sym long) (omega (arith, length-replicate {A = ℕ} (4 * n) 0))
+        let even : length g ≡ length s = all-there Gl bytes (goalsAt 0 n) n .1 (y .1 .1 .1 .0) ∙ sym long in
+        let count = counted t long (all-there Ln bytes (lengthsAt 0 n) (lengthCount t n) .1 (y .1 .1 .1 .1 .0)) in
+        four-on (lengthsOf t n bytes) m s g (lent n) (y .0) (omega arith) even count (omega (arith, length-replicate {A = ℕ} (4 * n) 0))

@@ -10,15 +10,17 @@ use Rattle.blocks.specs.Position.{Problem}
 use Rattle.blocks.specs.Tests.{misplacedCount}
 use Rattle.blocks.specs.Move.{Plan}
 use Rattle.blocks.specs.Method.{Outcome, plan, nothingToPutDown, Method, outcome, methodOf, outcomeBy, planOf, planOutcome}
-use Rattle.blocks.specs.Question.{allYes, firstNo, planQuestions}
-use Rattle.blocks.specs.Answer.{flat, moves, planned, written, planAnswer, planSpace}
+use Rattle.blocks.specs.Question.{allYes, firstNo}
+use Rattle.blocks.specs.Answer.{flat, moves, planned, written}
+use Rattle.blocks.specs.Length.{Lengths}
+use Rattle.blocks.specs.With.{planQuestionsWith, planAnswerWith, planSpaceWith}
 use Rattle.lists.specs.Lists.{overwrite}
 use Rattle.lists.proofs.WriteLaws.{overwrite-front}
 use Rattle.blocks.proofs.MeasureLaws.{misplaced-le}
 use Rattle.blocks.proofs.FlatLaws.{pairs-back, length-flat}
-use Rattle.blocks.proofs.AnsweredLaws.{plan-accepts}
+use Rattle.blocks.proofs.WithLaws.{plan-accepts}
 use Rattle.blocks.proofs.Theorems.{theorems}
-use Rattle.planner.specs.Answers.{Plans}
+use Rattle.planner.specs.Answers.{PlansWith}
 use Rattle.planner.specs.declared.Planned.the-variants.{Made}
 use Rattle.responder.specs.Responses.{planBytes, planRecords}
 use Rattle.responder.specs.Answers.{replyOf, Writable}
@@ -38,20 +40,21 @@ short-plan m s g q = by (methodOf m)
         of (plan p) e = theorems .plan-fits b s g q p e
         of nothingToPutDown e = omega arith
 
-pub lifts-le : (m : ℕ) (s g : State) (space : List ℕ) → firstNo (planQuestions m s g space) ≡ allYes → length (planOf (planOutcome m s g)) ≤ 2 * most
-lifts-le m s g space all = let a = plan-accepts m s g space .0 all .1 in omega (arith, short-plan m s g (a .problem), a .small)
+pub lifts-le : (ls : Lengths) (m : ℕ) (s g : State) (space : List ℕ) → firstNo (planQuestionsWith ls m s g space) ≡ allYes
+    → length (planOf (planOutcome m s g)) ≤ 2 * most
+lifts-le ls m s g space all = let a = plan-accepts ls m s g space .0 all .1 .accepted in omega (arith, short-plan m s g (a .problem), a .small)
 
 -- ---- a plan was made
 
-module _ {m : ℕ} {s g : State} {space : List ℕ} {c d : ℕ} {space′ : List ℕ} (v : Plans m s g space (Made c d) space′) where
+module _ {ls : Lengths} {m : ℕ} {s g : State} {space : List ℕ} {c d : ℕ} {space′ : List ℕ} (v : PlansWith ls m s g space (Made c d) space′) where
   abbrev lifts : Plan
   lifts = planOf (planOutcome m s g)
 
-  pub made-yes : firstNo (planQuestions m s g space) ≡ allYes
+  pub made-yes : firstNo (planQuestionsWith ls m s g space) ≡ allYes
   made-yes = sym (v .asked)
 
   numbers : record { number = 0; place = 0; count = c; misplaced = d } ≡ planned allYes s g lifts
-  unfolding planAnswer
+  unfolding planAnswerWith
   numbers = v .answer ∙ ap (λ a. planned a s g lifts) made-yes
 
   count : c ≡ length lifts
@@ -61,7 +64,7 @@ module _ {m : ℕ} {s g : State} {space : List ℕ} {c d : ℕ} {space′ : List
   misplaced = ap (λ a. a .misplaced) numbers
 
   lent-list : space′ ≡ overwrite (flat lifts) space
-  unfolding planSpace
+  unfolding planSpaceWith
   lent-list = v .lent ∙ ap (λ a. written a (flat lifts) space) made-yes
 
   pairs : 2 * c ≡ length (flat lifts)
@@ -71,8 +74,8 @@ module _ {m : ℕ} {s g : State} {space : List ℕ} {c d : ℕ} {space′ : List
   front = ap₂ (λ i l. moves (take i l)) pairs lent-list ∙ ap moves (overwrite-front (flat lifts) space) ∙ pairs-back lifts
 
   -- The records are the plan's, in whatever space the questions are all yes.
-  pub made-records : (other : List ℕ) → firstNo (planQuestions m s g other) ≡ allYes → replyOf (Made c d) space′ ≡ planRecords m s g other
-  unfolding planAnswer
+  pub made-records : (other : List ℕ) → firstNo (planQuestionsWith ls m s g other) ≡ allYes → replyOf (Made c d) space′ ≡ planRecords ls m s g other
+  unfolding planAnswerWith
   made-records other all =
       ap₂ (λ i j. planBytes i j (moves (take (2 * c) space′))) count misplaced
       ∙ ap (planBytes (length lifts) (misplacedCount s g)) front
@@ -82,7 +85,7 @@ module _ {m : ℕ} {s g : State} {space : List ℕ} {c d : ℕ} {space′ : List
   made-writable = record { counts = bounds }
     where
       few : misplacedCount s g ≤ most
-      few = omega (arith, misplaced-le s g, plan-accepts m s g space .0 made-yes .1 .small)
+      few = omega (arith, misplaced-le s g, plan-accepts ls m s g space .0 made-yes .1 .accepted .small)
 
       within : 2 * c ≤ length space′
       within = omega (arith, pairs, ap length lent-list, length-append (flat lifts) (drop (length (flat lifts)) space))
@@ -91,4 +94,4 @@ module _ {m : ℕ} {s g : State} {space : List ℕ} {c d : ℕ} {space′ : List
       bounds i j e =
           let same : c ≡ i = cc in
           let alike : d ≡ j = cc in
-          (omega (arith, count, lifts-le m s g space made-yes), omega (arith, misplaced, few), omega (arith, within))
+          (omega (arith, count, lifts-le ls m s g space made-yes), omega (arith, misplaced, few), omega (arith, within))

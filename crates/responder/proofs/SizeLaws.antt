@@ -23,6 +23,6 @@ pub longest-is : longest ≡ 6 + 12 * most
 unfolding markOf marks
 longest-is = refl
 
-pub enough-is : enough ≡ 7 + 8 * most
+pub enough-is : enough ≡ 7 + 12 * most
 unfolding markOf marks
 enough-is = refl

@@ -2,6 +2,7 @@
 use Prim.Native.Nat.{ℕ, zero, suc, _+_, _*_, _≤_}
 use mathlib.Core.Path.{_≡_, refl, sym, _∙_, ap, ap₂, subst}
 use mathlib.Core.Logic.{inl, inr}
+use mathlib.Core.Bool.{Bool}
 use mathlib.Core.List.{List, [], _∷_, _++_, append-assoc, append-nil}
 use mathlib.Core.Option.{some}
 use native.Mathlib.Omega.{arith}
@@ -14,10 +15,12 @@ use Rattle.blocks.specs.Tests.{misplacedCount}
 use Rattle.blocks.specs.Method.{Method, Us, Gn1, Gn2, plan, outcome, numberOf, methodOf, outcomeBy, planOf, planOutcome}
 use Rattle.blocks.specs.Question.{Asked, allYes, no′, IsMethod}
 use Rattle.blocks.specs.Answer.{PlanAnswer}
-use Rattle.blocks.specs.Demands.{Promise, Economy}
+use Rattle.blocks.specs.Length.{Lengths}
+use Rattle.blocks.specs.WithDemands.{PromiseWith}
 use Rattle.blocks.proofs.MeasureLaws.{misplaced-le}
 use Rattle.blocks.proofs.QuestionLaws.{clash}
 use Rattle.blocks.proofs.Theorems.{theorems}
+use Rattle.blocks.proofs.WithTheorems.{with-theorems}
 use Rattle.records.specs.Marks.{marks, markOf, size}
 use Rattle.records.specs.Records.{hasRecord, recordAt, recordBytes}
 use Rattle.records.specs.declared.Kind.{Kind}
@@ -26,7 +29,7 @@ use Rattle.records.specs.declared.Found.the-variants.{Record, Missing}
 use Rattle.records.proofs.RoundTrip.{read-between}
 use Rattle.records.proofs.WriteLaws.{length-record}
 use Rattle.sheets.specs.Sheets.{nows, goals}
-use Rattle.responder.specs.Responses.{lent, refusalBytes, moveBytes, planBytes, planRecords, reply, sheetResponse, responseBy, responseTo}
+use Rattle.responder.specs.Responses.{lengthsOf, lent, refusalBytes, moveBytes, planBytes, planRecords, reply, sheetResponse, responseBy, responseTo}
 use Rattle.responder.specs.Refusals.{asked, Complete, ProgramRefused}
 use Rattle.responder.specs.Told.{andLift, liftsAt, TellsPlan, Tells, Told}
 use Rattle.responder.proofs.SizeLaws.{size-lf}
@@ -95,15 +98,18 @@ named (suc (suc zero)) i = (Gn1, refl, refl)
 named (suc (suc (suc zero))) i = (Gn2, refl, refl)
 named (suc (suc (suc (suc m)))) i = absurd (omega (arith, i .high))
 
-module _ (bytes : List ℕ) (n : ℕ) (by : Method) (same : methodOf (numberOf by) ≡ some by) (w : Complete bytes n (numberOf by)) where
+module _ (bytes : List ℕ) (t : Bool) (n : ℕ) (by : Method) (same : methodOf (numberOf by) ≡ some by) (w : Complete bytes t n (numberOf by)) where
+  abbrev ls : Lengths
+  ls = lengthsOf t n bytes
+
   abbrev s : State
   s = nows bytes 0 n
 
   abbrev g : State
   g = goals bytes 0 n
 
-  abbrev demand : (p : Plan) × (outcome by s g ≡ plan p) × Promise by s g p × Economy by s g p
-  demand = theorems .demand by s g (w .accepted .problem)
+  abbrev demand : (p : Plan) × (outcome by s g ≡ plan p) × PromiseWith ls by s g p
+  demand = with-theorems .demand ls by s g (w .accepted)
 
   abbrev p : Plan
   p = demand .0
@@ -114,17 +120,19 @@ module _ (bytes : List ℕ) (n : ℕ) (by : Method) (same : methodOf (numberOf b
   room : 4 * length s ≤ length (lent n)
   room = omega (arith, w .nows-read .long, length-replicate {A = ℕ} (4 * n) 0)
 
-  written : planRecords (numberOf by) s g (lent n) ≡ answer
+  written : planRecords ls (numberOf by) s g (lent n) ≡ answer
   unfolding planOutcome
   written =
       let lifts : planOf (outcomeBy (methodOf (numberOf by)) s g) ≡ p = ap (λ o. planOf (outcomeBy o s g)) same ∙ ap planOf (demand .1) in
-      ap₂ (λ (a : PlanAnswer) q. planBytes (a .count) (a .misplaced) q) (theorems .plan-answers by s g (lent n) (w .accepted) room p (demand .1) .0) lifts
+      let plain = theorems .plan-answers by s g (lent n) (w .accepted .accepted) room p (demand .1) .0 in
+      let answers = with-theorems .same-lists .plan ls (numberOf by) s g (lent n) (w .accepted) .0 ∙ plain in
+      ap₂ (λ (a : PlanAnswer) q. planBytes (a .count) (a .misplaced) q) answers lifts
 
   plan-response : responseTo bytes ≡ answer
   unfolding responseTo sheetResponse
   plan-response =
-      ap (λ f. responseBy f bytes) (head-found bytes n (numberOf by) (w .begun .head))
-      ∙ ap (λ a. reply a (planRecords (numberOf by) s g (lent n))) (all-yes bytes n (numberOf by) w)
+      ap (λ h. responseBy h bytes) (head-found bytes t n (numberOf by) (w .begun .head))
+      ∙ ap (λ a. reply a (planRecords ls (numberOf by) s g (lent n))) (all-yes bytes t n (numberOf by) w)
       ∙ written
 
   lifts-read : liftsAt answer (size Pl) (length p) ≡ p
@@ -141,15 +149,16 @@ module _ (bytes : List ℕ) (n : ℕ) (by : Method) (same : methodOf (numberOf b
   tells-plan : TellsPlan bytes answer (length p) (misplacedCount s g)
   tells-plan =
       record {
+        measured = t;
         n = n;
         method = by;
         sheet = w;
         lifts = ap length lifts-read;
         end = long;
-        head-count = theorems .head-count s g (w .accepted .problem);
+        head-count = with-theorems .head-count ls s g (w .accepted);
         given = demand .1 ∙ ap plan (sym lifts-read);
-        told = theorems .methods by s g (w .accepted .problem) (liftsAt answer (size Pl) (length p)) .0 (demand .1 ∙ ap plan (sym lifts-read));
-        promise = subst (Promise by s g) (sym lifts-read) (demand .2);
+        told = theorems .methods by s g (w .accepted .accepted .problem) (liftsAt answer (size Pl) (length p)) .0 (demand .1 ∙ ap plan (sym lifts-read));
+        promise = subst (PromiseWith ls by s g) (sym lifts-read) (demand .2);
       }
 
   plan-tells : Tells bytes answer
@@ -157,20 +166,20 @@ module _ (bytes : List ℕ) (n : ℕ) (by : Method) (same : methodOf (numberOf b
       let read = plan-read (length p) (misplacedCount s g) p in
       record {
         either = inl (length p, misplacedCount s g, read);
-        planned = (λ _. (length p, misplacedCount s g, read), λ _. (n, numberOf by, w));
+        planned = (λ _. (length p, misplacedCount s g, read), λ _. (t, n, numberOf by, w));
         promised = promised;
         refused = λ k q. (λ r. absurd (clash (sym yes ∙ refusals .refuses bytes k q .1 r)), λ e. absurd (other k q e));
-        small = plan-bytes (length p) (misplacedCount s g) p s few less (w .accepted .small) (demand .2 .solves .legal);
+        small = plan-bytes (length p) (misplacedCount s g) p s few less (w .accepted .accepted .small) (demand .2 .solves .solves .legal);
       }
     where
       yes : asked bytes ≡ allYes
-      yes = refusals .accepts bytes .1 (n, numberOf by, w)
+      yes = refusals .accepts bytes .1 (t, n, numberOf by, w)
 
       few : length p ≤ 2 * most
-      few = omega (arith, theorems .plan-fits by s g (w .accepted .problem) p (demand .1), w .accepted .small)
+      few = omega (arith, theorems .plan-fits by s g (w .accepted .accepted .problem) p (demand .1), w .accepted .accepted .small)
 
       less : misplacedCount s g ≤ most
-      less = omega (arith, misplaced-le s g, w .accepted .small)
+      less = omega (arith, misplaced-le s g, w .accepted .accepted .small)
 
       promised : (c d : ℕ) → recordAt Pl answer 0 ≡ Record c d → TellsPlan bytes answer c d
       promised c d e =
@@ -220,11 +229,11 @@ told bytes = by (asked bytes) refl
     by (no′ k p) a = subst (Tells bytes) (sym (refused-response bytes k p a)) (refusal-tells bytes k p a)
     by allYes a = of (refusals .accepts bytes .0 a)
       where
-        of : (n : ℕ) × (m : ℕ) × Complete bytes n m → Tells bytes (responseTo bytes)
-        of (n, m, w) = method (named m (w .begun .method))
+        of : (t : Bool) × (n : ℕ) × (m : ℕ) × Complete bytes t n m → Tells bytes (responseTo bytes)
+        of (t, n, m, w) = method (named m (w .begun .method))
           where
             method : (b : Method) × (m ≡ numberOf b) × (methodOf m ≡ some b) → Tells bytes (responseTo bytes)
             method (b, e, f) =
                 let same : methodOf (numberOf b) ≡ some b = ap methodOf (sym e) ∙ f in
-                let c : Complete bytes n (numberOf b) = subst (Complete bytes n) e w in
-                subst (Tells bytes) (sym (plan-response bytes n b same c)) (plan-tells bytes n b same c)
+                let c : Complete bytes t n (numberOf b) = subst (Complete bytes t n) e w in
+                subst (Tells bytes) (sym (plan-response bytes t n b same c)) (plan-tells bytes t n b same c)

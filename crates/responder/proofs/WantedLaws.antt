@@ -1,7 +1,7 @@
 -- The ways out of `decided_by` and of `wanted`. Assumes nothing.
 use Prim.Native.Nat.{ℕ, _+_, _-_, _*_, _^_, _≤_, _<_}
 use mathlib.Core.Path.{_≡_, sym, _∙_, ap}
-use mathlib.Core.Bool.{true, false}
+use mathlib.Core.Bool.{Bool, true, false}
 use mathlib.Core.List.{List}
 use native.Mathlib.Omega.{arith}
 use borrow.Author.Tests.{lt-ltb, le-ltb}
@@ -14,21 +14,20 @@ use Rattle.planner.specs.declared.Method.{Method}
 use Rattle.planner.specs.declared.Named.{Named}
 use Rattle.planner.specs.declared.Named.the-variants.{By, Unknown}
 use Rattle.records.specs.Marks.{marks, markOf}
-use Rattle.records.specs.Records.{recordAt}
-use Rattle.records.specs.declared.Kind.the-variants.{Hd}
-use Rattle.records.specs.declared.Found.{Found}
-use Rattle.records.specs.declared.Found.the-variants.{Record, Missing}
+use Rattle.sheets.specs.declared.Head.{Head}
+use Rattle.sheets.specs.declared.Head.the-variants.{Missing, There}
 use Rattle.sheets.specs.declared.Sheet.{Sheet}
 use Rattle.sheets.specs.declared.Sheet.the-variants.{Headless, Long, Broken, Whole}
-use Rattle.sheets.specs.Sheets.{endAt, sheetAt}
+use Rattle.sheets.specs.Sheets.{headAt, lengthCount, endAt, sheetAt}
 use Rattle.sheets.specs.Reads.{ReadsSheet}
-use Rattle.sheets.proofs.PlaceLaws.{size-hd, end-at}
+use Rattle.sheets.proofs.PlaceLaws.{size-hd, length-count-le, end-at}
 use Rattle.sheets.proofs.SheetLaws as read
 use Rattle.responder.specs.Wanted.{decidedBy, wantedBy, wanted}
 
 -- ---- the cases of a sheet that was read
 
-module _ {bytes initial goal : List ℕ} {sheet : Sheet} {initial′ goal′ : List ℕ} (w : ReadsSheet bytes 0 initial goal sheet initial′ goal′) where
+module _ {bytes initial goal lens : List ℕ} {sheet : Sheet} {initial′ goal′ lens′ : List ℕ}
+    (w : ReadsSheet bytes 0 initial goal lens sheet initial′ goal′ lens′) where
   case : {s : Sheet} → sheet ≡ s → decidedBy s ≡ decidedBy (sheetAt bytes 0)
   case e = ap decidedBy (sym e ∙ w .answer)
 
@@ -42,24 +41,24 @@ module _ {bytes initial goal : List ℕ} {sheet : Sheet} {initial′ goal′ : L
   unfolding markOf marks
   broken-case e f = omega (arith, case e, f)
 
-  pub whole-case : {n m e : ℕ} → sheet ≡ Whole n m e → e + 1 ≡ decidedBy (sheetAt bytes 0)
+  pub whole-case : {n m : ℕ} {t : Bool} {e : ℕ} → sheet ≡ Whole n m t e → e + 1 ≡ decidedBy (sheetAt bytes 0)
   whole-case f = case f
 
-  pub whole-fits : {n m e : ℕ} → sheet ≡ Whole n m e → e + 1 < 2 ^ 64
-  whole-fits {n} f = let s = read.whole w f in omega (arith, s .end, s .small, end-at 0 n)
+  pub whole-fits : {n m : ℕ} {t : Bool} {e : ℕ} → sheet ≡ Whole n m t e → e + 1 < 2 ^ 64
+  whole-fits {n} {t = t} f = let s = read.whole w f in omega (arith, s .end, s .small, length-count-le t n, end-at 0 n (lengthCount t n))
 
 -- ---- what is wanted
 
-module _ (bytes : List ℕ) {head : Found} (is : head ≡ recordAt Hd bytes 0) where
+module _ (bytes : List ℕ) {head : Head} (is : head ≡ headAt bytes 0) where
   pub headless-way : {r : ℕ} → head ≡ Missing → r ≡ 6 - length bytes → r ≡ wanted bytes
   unfolding wanted
   headless-way e f = f ∙ ap (λ i. i - length bytes) (sym size-hd) ∙ ap (λ h. wantedBy h bytes) (sym e ∙ is)
 
-  behind : {n m : ℕ} → head ≡ Record n m → wantedBy (Record n m) bytes ≡ wanted bytes
+  behind : {t : Bool} {n m : ℕ} → head ≡ There t n m → wantedBy (There t n m) bytes ≡ wanted bytes
   unfolding wanted
   behind e = ap (λ h. wantedBy h bytes) (sym e ∙ is)
 
-  module _ {n m : ℕ} (e : head ≡ Record n m) {named : Named} (called : namedAs named ≡ methodOf m) where
+  module _ {t : Bool} {n m : ℕ} (e : head ≡ There t n m) {named : Named} (called : namedAs named ≡ methodOf m) where
     named-as : {x : Named} → named ≡ x → isMethod (methodOf m) ≡ isMethod (namedAs x)
     named-as f = ap isMethod (sym called ∙ ap namedAs f)
 
@@ -67,10 +66,12 @@ module _ (bytes : List ℕ) {head : Found} (is : head ≡ recordAt Hd bytes 0) w
     unknown-way f = sym (simp (named-as f)) ∙ behind e
 
     module _ {by : Method} {d : ℕ} (b : named ≡ By by) (decides : d ≡ decidedBy (sheetAt bytes 0)) where
-      pub wanting-way : {k r : ℕ} → length bytes < d → k ≡ n → r ≡ 6 + 8 * k + 1 - length bytes → r ≡ wanted bytes
-      wanting-way {k} l f g =
+      pub wanting-way : {i k r : ℕ} → length bytes < d → i ≡ n → k ≡ lengthCount t i → r ≡ 6 + 4 * (2 * i + k) + 1 - length bytes → r ≡ wanted bytes
+      wanting-way {i} {k} l f c g =
+          let count : k ≡ lengthCount t n = c ∙ ap (lengthCount t) f in
           let less : ltb (length bytes) (decidedBy (sheetAt bytes 0)) ≡ true = lt-ltb (length bytes) (decidedBy (sheetAt bytes 0)) (omega (arith, decides)) in
-          let rest : endAt 0 n + 1 - length bytes ≡ 6 + 8 * k + 1 - length bytes = omega (arith, end-at 0 n) in
+          let rest : endAt 0 n (lengthCount t n) + 1 - length bytes ≡ 6 + 4 * (2 * i + k) + 1 - length bytes =
+          omega (arith, count, f, end-at 0 n (lengthCount t n)) in
           g ∙ sym rest ∙ sym (simp (named-as b, less)) ∙ behind e
 
       pub decided-way : d ≤ length bytes → 0 ≡ wanted bytes

@@ -2,21 +2,23 @@
 use Prim.Native.Nat.{ℕ, _+_, _*_, _≤_, _<_}
 use mathlib.Core.Path.{_≡_}
 use mathlib.Core.Logic.{_≢_}
-use mathlib.Core.Bool.{cond}
+use mathlib.Core.Bool.{Bool, cond}
 use mathlib.Core.List.{List}
 use lib.ListN.{length, take}
 use Rattle.blocks.specs.State.{most}
 use Rattle.blocks.specs.Method.{methodOf}
 use Rattle.blocks.specs.Question.{isMethod}
 use Rattle.blocks.specs.Answer.{moves}
+use Rattle.blocks.specs.Length.{given}
 use Rattle.lists.specs.Lists.{overwrite, overwriteAt}
 use Rattle.records.specs.Marks.{size}
 use Rattle.records.specs.declared.Kind.the-variants.{Pl, Lf}
-use Rattle.planner.specs.Answers.{Plans}
+use Rattle.planner.specs.Answers.{PlansWith}
 use Rattle.planner.specs.declared.Planned.{Planned}
 use Rattle.planner.specs.declared.Planned.the-variants.{Refused, Made}
 use Rattle.sheets.specs.declared.Sheet.{Sheet}
 use Rattle.sheets.specs.declared.Sheet.the-variants.{Headless, Long, Broken, Whole}
+use Rattle.sheets.specs.Sheets.{lengthCount}
 use Rattle.responder.specs.Responses.{refusalBytes, moveBytes, planBytes, responseTo}
 use Rattle.responder.specs.Told.{Tells}
 
@@ -50,22 +52,22 @@ refusedAs m k p = cond (isMethod (methodOf m)) (Refused k p) (Refused 1 0)
 
 -- A whole sheet is within the limit.
 pub record Askable (sheet : Sheet) : Type 0 where
-  pub small : (n m e : ℕ) → sheet ≡ Whole n m e → n ≤ most
+  pub small : (n m : ℕ) (measured : Bool) (e : ℕ) → sheet ≡ Whole n m measured e → n ≤ most
 
 -- A whole sheet of an input of some size: a tail, or what planning answers to its entries.
-pub record AsksWhole (n m e size : ℕ) (initial goal space : List ℕ) (r : Planned) (space′ : List ℕ) : Type 0 where
-  pub tail : size ≢ e → r ≡ refusedAs m 12 (2 * n + 1)
-  pub plans : size ≡ e → Plans m (take n initial) (take n goal) space r space′
+pub record AsksWhole (n m : ℕ) (measured : Bool) (e size : ℕ) (initial goal lengths space : List ℕ) (r : Planned) (space′ : List ℕ) : Type 0 where
+  pub tail : size ≢ e → r ≡ refusedAs m 12 (2 * n + lengthCount measured n + 1)
+  pub plans : size ≡ e → PlansWith (given measured (take (lengthCount measured n) lengths)) m (take n initial) (take n goal) space r space′
 
 -- What is answered to a sheet, by its case.
-abbrev pub AsksBy : Sheet → ℕ → List ℕ → List ℕ → List ℕ → Planned → List ℕ → Type 0
-AsksBy Headless size initial goal space r space′ = r ≡ Refused 12 0
-AsksBy (Long m) size initial goal space r space′ = r ≡ refusedAs m 2 0
-AsksBy (Broken m p) size initial goal space r space′ = r ≡ refusedAs m 12 p
-AsksBy (Whole n m e) size initial goal space r space′ = AsksWhole n m e size initial goal space r space′
+abbrev pub AsksBy : Sheet → ℕ → List ℕ → List ℕ → List ℕ → List ℕ → Planned → List ℕ → Type 0
+AsksBy Headless size initial goal lengths space r space′ = r ≡ Refused 12 0
+AsksBy (Long m) size initial goal lengths space r space′ = r ≡ refusedAs m 2 0
+AsksBy (Broken m p) size initial goal lengths space r space′ = r ≡ refusedAs m 12 p
+AsksBy (Whole n m measured e) size initial goal lengths space r space′ = AsksWhole n m measured e size initial goal lengths space r space′
 
-pub record Asks (sheet : Sheet) (size : ℕ) (initial goal space : List ℕ) (r : Planned) (space′ : List ℕ) : Type 0 where
-  pub by-case : AsksBy sheet size initial goal space r space′
+pub record Asks (sheet : Sheet) (size : ℕ) (initial goal lengths space : List ℕ) (r : Planned) (space′ : List ℕ) : Type 0 where
+  pub by-case : AsksBy sheet size initial goal lengths space r space′
 
 -- ---- the answer of planning as records
 

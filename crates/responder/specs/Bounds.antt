@@ -3,15 +3,15 @@
 use Prim.Native.Nat.{ℕ, _+_, _-_, _*_, _≤_}
 use mathlib.Core.Path.{_≡_}
 use mathlib.Core.Logic.{_⊎_, _≢_}
+use mathlib.Core.Bool.{Bool}
 use mathlib.Core.List.{List, _++_}
 use lib.ListN.{length, take}
 use Rattle.blocks.specs.State.{most}
 use Rattle.records.specs.Marks.{size}
-use Rattle.records.specs.Records.{recordAt}
 use Rattle.records.specs.RoundTrip.{Bytes}
 use Rattle.records.specs.declared.Kind.the-variants.{Hd, Nw}
-use Rattle.records.specs.declared.Found.the-variants.{Record, Missing}
-use Rattle.sheets.specs.Sheets.{nowsAt, endAt}
+use Rattle.sheets.specs.declared.Head.the-variants.{Missing, There}
+use Rattle.sheets.specs.Sheets.{headAt, lengthCount, nowsAt, endAt}
 use Rattle.responder.specs.Responses.{responseTo}
 use Rattle.responder.specs.Wanted.{wanted}
 use Rattle.responder.specs.Answers.{longest}
@@ -36,21 +36,21 @@ Needed = (bytes : List ℕ) → RecordEnds (length bytes) → wanted bytes ≢ 0
 
 -- No more are wanted than the rest of the head, and behind a head than the rest of its sheet and a byte.
 pub record WantsWithin (bytes : List ℕ) : Type 0 where
-  pub head : recordAt Hd bytes 0 ≡ Missing → wanted bytes ≤ size Hd - length bytes
-  pub sheet : (n m : ℕ) → recordAt Hd bytes 0 ≡ Record n m → wanted bytes ≤ endAt 0 n + 1 - length bytes
+  pub head : headAt bytes 0 ≡ Missing → wanted bytes ≤ size Hd - length bytes
+  pub sheet : (measured : Bool) (n m : ℕ) → headAt bytes 0 ≡ There measured n m → wanted bytes ≤ endAt 0 n (lengthCount measured n) + 1 - length bytes
 
 abbrev pub WantedWithin : Type 0
 WantedWithin = (bytes : List ℕ) → WantsWithin bytes
 
 -- A byte more than the longest input without a tail.
 abbrev pub enough : ℕ
-enough = endAt 0 most + 1
+enough = endAt 0 most most + 1
 
--- Never more are wanted than fill 32,007 bytes.
+-- Never more are wanted than fill 48,007 bytes.
 abbrev pub WantedBounded : Type 0
 WantedBounded = (bytes : List ℕ) → length bytes ≤ enough → length bytes + wanted bytes ≤ enough
 
--- The answer to an input is the answer to its first 32,007 bytes.
+-- The answer to an input is the answer to its first 48,007 bytes.
 abbrev pub Enough : Type 0
 Enough = (bytes : List ℕ) → responseTo (take enough bytes) ≡ responseTo bytes
 

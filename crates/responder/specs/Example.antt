@@ -1,5 +1,5 @@
--- Inputs with their answers by the definition: document 01's whole example, and three in which the fields of a record differ. Statements alone;
--- `proofs/Example.antt` proves them by computation. Assumes nothing.
+-- Inputs with their answers by the definition: document 01's whole example, alone and with a tail, three in which the fields of a record differ, and four
+-- with lengths (document 02, Job 3). Statements alone; `proofs/Example.antt` proves them by computation. Assumes nothing.
 use Prim.Native.Nat.{ℕ}
 use mathlib.Core.Path.{_≡_}
 use mathlib.Core.List.{List, [], _∷_, _++_}
@@ -28,8 +28,21 @@ firstOutside = two 72 68 3 2 ++ (one 78 87 2 ++ (one 78 87 1 ++ (one 78 87 5 ++ 
 abbrev pub tail : List ℕ
 tail = two 72 68 0 1 ++ (0 ∷ [])
 
+-- S2 by method 2 with head mark HL and two lengths, as document 01's whole example without them.
+abbrev pub measured : ℕ → ℕ → List ℕ
+measured a b = two 72 76 2 2 ++ (one 78 87 2 ++ (one 78 87 0 ++ (one 71 76 0 ++ (one 71 76 1 ++ (one 76 78 a ++ one 76 78 b)))))
+
 pub record Examples : Type 0 where
   pub whole : responseTo input ≡ output
   pub planned : responseTo s6 ≡ s6Lifts
   pub refused : responseTo firstOutside ≡ two 78 79 4 3
   pub behind : responseTo tail ≡ two 78 79 12 1
+  -- document 01's whole example and a byte after its last GL record: number 12, place 2 × 2 + 1
+  pub behind-goals : responseTo (input ++ (0 ∷ [])) ≡ two 78 79 12 5
+  -- equal lengths may rest on each other: the lifts are those without lengths
+  pub equal : responseTo (measured 7 7) ≡ output
+  -- slab 1 is too long for slab 2 now: number 17, place 1; slab 2 for slab 1 in the goal: number 18, place 2
+  pub overhangs-now : responseTo (measured 8 7) ≡ two 78 79 17 1
+  pub overhangs-goal : responseTo (measured 7 8) ≡ two 78 79 18 2
+  -- a byte after the last LN record: number 12, place 3 × 2 + 1
+  pub behind-lengths : responseTo (measured 7 7 ++ (0 ∷ [])) ≡ two 78 79 12 7

@@ -6,3 +6,4 @@ pub mod Answers
 pub mod Wanted
 pub mod Bounds
 pub mod Example
+pub mod Plain

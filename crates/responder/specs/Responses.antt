@@ -1,21 +1,23 @@
--- What the planning program answers, bytes to bytes (document 01, "Records of the program" and question 12). Assumes nothing.
+-- What the planning program answers, bytes to bytes (document 01, "Records of the program" and question 12; document 02, Job 3). Assumes nothing.
 use Prim.Native.Nat.{ℕ, _+_, _*_, _≤_, _<_}
 use mathlib.Core.Path.{_≡_}
+use mathlib.Core.Bool.{Bool}
 use mathlib.Core.List.{List, [], _∷_, _++_}
 use lib.Dec.{eqb, leb}
 use lib.ListN.{length, replicate}
 use Rattle.blocks.specs.State.{State}
 use Rattle.blocks.specs.Move.{_⟶_, Plan}
-use Rattle.blocks.specs.Question.{Question, Asked, allYes, no′, firstNo, asksMethod, asksSize, planQuestions}
+use Rattle.blocks.specs.Question.{Question, Asked, allYes, no′, firstNo, asksMethod, asksSize}
 use Rattle.blocks.specs.Method.{planOf, planOutcome}
-use Rattle.blocks.specs.Answer.{planAnswer}
-use Rattle.records.specs.Records.{recordAt, entriesAt, recordBytes}
+use Rattle.blocks.specs.Length.{Lengths, given}
+use Rattle.blocks.specs.With.{planQuestionsWith, planAnswerWith}
+use Rattle.records.specs.Records.{entriesAt, recordBytes}
 use Rattle.records.specs.There.{AllThere, FirstMissing}
 use Rattle.records.specs.declared.Kind.{Kind}
-use Rattle.records.specs.declared.Kind.the-variants.{Hd, Nw, Gl, Pl, Lf, No}
-use Rattle.records.specs.declared.Found.{Found}
-use Rattle.records.specs.declared.Found.the-variants.{Record, Missing}
-use Rattle.sheets.specs.Sheets.{nowsAt, goalsAt, endAt, nows, goals}
+use Rattle.records.specs.declared.Kind.the-variants.{Nw, Gl, Pl, Lf, No, Ln}
+use Rattle.sheets.specs.declared.Head.{Head}
+use Rattle.sheets.specs.declared.Head.the-variants.{Missing, There}
+use Rattle.sheets.specs.Sheets.{headAt, lengthCount, nowsAt, goalsAt, lengthsAt, endAt, nows, goals, lengths}
 
 -- ---- the questions after the head's: "then 1 and 2 are asked; then 12 of the other records in order; then 4 on."
 
@@ -31,33 +33,44 @@ asksRecords k n bytes at before =
       place = before + length (entriesAt k bytes at n);
     }
 
--- Of the n NW records behind the head, and of the n GL records behind these.
+-- Of the n NW records behind the head, of the n GL records behind these, and of the k LN records behind these.
 unfoldable pub asksNows : ℕ → List ℕ → Question
 asksNows n bytes = asksRecords Nw n bytes (nowsAt 0) 1
 
 unfoldable pub asksGoals : ℕ → List ℕ → Question
 asksGoals n bytes = asksRecords Gl n bytes (goalsAt 0 n) (1 + n)
 
--- Of a tail, by the number of bytes: "and nothing after the last record?" "or 2 × n + 1 for a tail."
-unfoldable pub asksTail : ℕ → ℕ → Question
-asksTail n size =
+unfoldable pub asksLengthRecords : ℕ → ℕ → List ℕ → Question
+asksLengthRecords n k bytes = asksRecords Ln k bytes (lengthsAt 0 n) (1 + n + n)
+
+-- Of a tail, by the number of bytes: "and nothing after the last record?" "or 2 × n + 1 for a tail." With n LN records "its tail place is 3 × n + 1."
+unfoldable pub asksTail : ℕ → ℕ → ℕ → Question
+asksTail n k size =
     record {
       number = 12;
-      property = size ≤ endAt 0 n;
-      fault = λ p. (p ≡ 2 * n + 1) × (endAt 0 n < size);
-      test = leb size (endAt 0 n);
-      place = 2 * n + 1;
+      property = size ≤ endAt 0 n k;
+      fault = λ p. (p ≡ 2 * n + k + 1) × (endAt 0 n k < size);
+      test = leb size (endAt 0 n k);
+      place = 2 * n + k + 1;
     }
 
-abbrev pub recordQuestions : ℕ → List ℕ → List Question
-recordQuestions n bytes = asksNows n bytes ∷ asksGoals n bytes ∷ asksTail n (length bytes) ∷ []
+-- Behind a head HD no LN records are asked for.
+abbrev pub recordQuestions : Bool → ℕ → List ℕ → List Question
+recordQuestions measured n bytes =
+    asksNows n bytes ∷ asksGoals n bytes ∷ asksLengthRecords n (lengthCount measured n) bytes ∷ asksTail n (lengthCount measured n) (length bytes) ∷ []
 
--- A space of 4 × n numbers, which planning needs: by then its questions 1, 2, 3 and 10 have a yes, so it asks 4 on (`InOrder`).
+-- The lengths of a sheet: those of its LN records, or none.
+abbrev pub lengthsOf : Bool → ℕ → List ℕ → Lengths
+lengthsOf measured n bytes = given measured (lengths bytes 0 n (lengthCount measured n))
+
+-- A space of 4 × n numbers, which planning needs: by then its questions 1, 2, 3, 16 and 10 have a yes, so it asks 4 on (`InOrder`).
 abbrev pub lent : ℕ → List ℕ
 lent n = replicate (4 * n) 0
 
-unfoldable pub sheetQuestions : ℕ → ℕ → List ℕ → List Question
-sheetQuestions n m bytes = asksMethod m ∷ asksSize n ∷ (recordQuestions n bytes ++ planQuestions m (nows bytes 0 n) (goals bytes 0 n) (lent n))
+unfoldable pub sheetQuestions : Bool → ℕ → ℕ → List ℕ → List Question
+sheetQuestions measured n m bytes =
+    asksMethod m ∷ asksSize n
+    ∷ (recordQuestions measured n bytes ++ planQuestionsWith (lengthsOf measured n bytes) m (nows bytes 0 n) (goals bytes 0 n) (lent n))
 
 -- ---- the output: "It writes PL and the LF records, or one NO."
 
@@ -81,17 +94,18 @@ reply (no′ k p) bytes = refusalBytes k p
 -- ---- the answer
 
 -- The records of a plan: its count and that of the misplaced as planning answers them, and its lifts.
-abbrev pub planRecords : ℕ → State → State → List ℕ → List ℕ
-planRecords m s g space = planBytes (planAnswer m s g space .count) (planAnswer m s g space .misplaced) (planOf (planOutcome m s g))
+abbrev pub planRecords : Lengths → ℕ → State → State → List ℕ → List ℕ
+planRecords ls m s g space = planBytes (planAnswerWith ls m s g space .count) (planAnswerWith ls m s g space .misplaced) (planOf (planOutcome m s g))
 
 -- To the sheet of a head that says n and m: the first "no", or the plan's records.
-unfoldable pub sheetResponse : ℕ → ℕ → List ℕ → List ℕ
-sheetResponse n m bytes = reply (firstNo (sheetQuestions n m bytes)) (planRecords m (nows bytes 0 n) (goals bytes 0 n) (lent n))
+unfoldable pub sheetResponse : Bool → ℕ → ℕ → List ℕ → List ℕ
+sheetResponse measured n m bytes =
+    reply (firstNo (sheetQuestions measured n m bytes)) (planRecords (lengthsOf measured n bytes) m (nows bytes 0 n) (goals bytes 0 n) (lent n))
 
 -- "Put first to the head": where it is not there, 12 with no records before it.
-abbrev pub responseBy : Found → List ℕ → List ℕ
+abbrev pub responseBy : Head → List ℕ → List ℕ
 responseBy Missing bytes = refusalBytes 12 0
-responseBy (Record n m) bytes = sheetResponse n m bytes
+responseBy (There measured n m) bytes = sheetResponse measured n m bytes
 
 unfoldable pub responseTo : List ℕ → List ℕ
-responseTo bytes = responseBy (recordAt Hd bytes 0) bytes
+responseTo bytes = responseBy (headAt bytes 0) bytes

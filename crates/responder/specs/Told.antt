@@ -3,12 +3,13 @@
 use Prim.Native.Nat.{ℕ, zero, suc, _+_, _*_}
 use mathlib.Core.Path.{_≡_}
 use mathlib.Core.Logic.{_⊎_, _↔_}
+use mathlib.Core.Bool.{Bool}
 use mathlib.Core.List.{List, [], _∷_}
 use lib.ListN.{length}
 use Rattle.blocks.specs.Move.{_⟶_, Plan}
 use Rattle.blocks.specs.Method.{Method, plan, outcome, numberOf}
 use Rattle.blocks.specs.Steps.{By}
-use Rattle.blocks.specs.Demands.{HeadCount, Promise}
+use Rattle.blocks.specs.WithDemands.{HeadCountWith, PromiseWith}
 use Rattle.records.specs.Marks.{size}
 use Rattle.records.specs.Records.{recordAt}
 use Rattle.records.specs.RoundTrip.{Bytes}
@@ -16,7 +17,7 @@ use Rattle.records.specs.declared.Kind.the-variants.{Pl, Lf}
 use Rattle.records.specs.declared.Found.{Found}
 use Rattle.records.specs.declared.Found.the-variants.{Record, Missing}
 use Rattle.sheets.specs.Sheets.{nows, goals}
-use Rattle.responder.specs.Responses.{refusalBytes, responseTo}
+use Rattle.responder.specs.Responses.{lengthsOf, refusalBytes, responseTo}
 use Rattle.responder.specs.Refusals.{Complete, ProgramRefused}
 
 -- ---- lifts read back
@@ -34,24 +35,26 @@ liftsAt bytes at (suc c) = andLift (recordAt Lf bytes at) (liftsAt bytes (at + s
 -- ---- what an answer tells of an input
 
 -- Of PL with c lifts and d misplaced: behind it stand c LF records and nothing more. They are the list that the method of the head, by its words too, gives
--- for the sheet of the NW and GL records, and it keeps demand 3. So many slabs of the sheet are misplaced, and what that promises holds too.
+-- for the sheet of the NW and GL records, and it keeps demand 3 under the lengths of the LN records. So many slabs of the sheet are misplaced, and what that
+-- promises holds too.
 pub record TellsPlan (bytes answer : List ℕ) (c d : ℕ) : Type 0 where
+  pub measured : Bool
   pub n : ℕ
   pub method : Method
-  pub sheet : Complete bytes n (numberOf method)
+  pub sheet : Complete bytes measured n (numberOf method)
   pub lifts : length (liftsAt answer (size Pl) c) ≡ c
   pub end : length answer ≡ size Pl + c * size Lf
-  pub head-count : HeadCount (nows bytes 0 n) (goals bytes 0 n) d
+  pub head-count : HeadCountWith (lengthsOf measured n bytes) (nows bytes 0 n) (goals bytes 0 n) d
   pub given : outcome method (nows bytes 0 n) (goals bytes 0 n) ≡ plan (liftsAt answer (size Pl) c)
   pub told : By method (nows bytes 0 n) (goals bytes 0 n) (liftsAt answer (size Pl) c)
-  pub promise : Promise method (nows bytes 0 n) (goals bytes 0 n) (liftsAt answer (size Pl) c)
+  pub promise : PromiseWith (lengthsOf measured n bytes) method (nows bytes 0 n) (goals bytes 0 n) (liftsAt answer (size Pl) c)
 
 -- Of an answer of any kind.
 pub record Tells (bytes answer : List ℕ) : Type 0 where
   -- "It writes PL and the LF records, or one NO."
   pub either : ((c : ℕ) × (d : ℕ) × (recordAt Pl answer 0 ≡ Record c d)) ⊎ ((k : ℕ) × (p : ℕ) × (answer ≡ refusalBytes k p))
   -- PL exactly where every question gets a yes, and then demand 3 is kept;
-  pub planned : ((n : ℕ) × (m : ℕ) × Complete bytes n m) ↔ ((c : ℕ) × (d : ℕ) × (recordAt Pl answer 0 ≡ Record c d))
+  pub planned : ((measured : Bool) × (n : ℕ) × (m : ℕ) × Complete bytes measured n m) ↔ ((c : ℕ) × (d : ℕ) × (recordAt Pl answer 0 ≡ Record c d))
   pub promised : (c d : ℕ) → recordAt Pl answer 0 ≡ Record c d → TellsPlan bytes answer c d
   -- NO exactly with the number and place of the first "no".
   pub refused : (k p : ℕ) → ProgramRefused bytes k p ↔ (answer ≡ refusalBytes k p)

@@ -1,5 +1,5 @@
-// The planning program as one function, the bytes of its input answered by the bytes of its output (document 01, "Records of the program"), and another
-// that says how much more of an input can matter.
+// The planning program as one function, the bytes of its input answered by the bytes of its output (document 01, "Records of the program";
+// document 02, Job 3), and another that says how much more of an input can matter.
 ghost use Prim.Native.Nat.{_-_};
 ghost use mathlib.Core.Path.{_≡_};
 ghost use Rattle.sheets.specs.Sheets.{sheetAt};
@@ -7,19 +7,19 @@ ghost use Rattle.responder.specs.Wanted.{decidedBy, wanted};
 ghost use Rattle.responder.specs.Answers.{replyOf, refusedAs, Responds, Askable, Asks, Writable, Roomy, Wrote, MovesFit, PutMoves};
 use planner::Named;
 use planner::Planned;
-use records::Found;
 use records::Kind;
 use rows::MOST;
+use sheets::Head;
 use sheets::Sheet;
 
-// The bytes of HD.
+// The bytes of HD and of HL.
 const HEAD: usize = 6;
 
-// The bytes of a NW or GL record.
+// The bytes of a NW, GL or LN record.
 const ENTRY: usize = 4;
 
-// The longest input without a tail, HD, MOST NW and MOST GL records, and a byte by which a tail is seen.
-pub const KEPT: usize = HEAD + 2 * ENTRY * MOST + 1;
+// The longest input without a tail, HL, MOST NW, MOST GL and MOST LN records, and a byte by which a tail is seen.
+pub const KEPT: usize = HEAD + 3 * ENTRY * MOST + 1;
 
 // The longest output: PL and 2 × MOST LF records.
 pub const LONGEST_ANSWER: usize = 6 + 12 * MOST;
@@ -33,9 +33,10 @@ pub fn respond(input: &[u8], out: &mut [u8]) -> usize
     }
     let mut initial = [0u16; MOST];
     let mut goal = [0u16; MOST];
+    let mut lengths = [0u16; MOST];
     let mut space = [0u16; 4 * MOST];
-    let sheet = sheets::read_sheet(input, 0, &mut initial, &mut goal);
-    let answer = ask(sheet, input.len(), &initial, &goal, &mut space);
+    let sheet = sheets::read_sheet(input, 0, &mut initial, &mut goal, &mut lengths);
+    let answer = ask(sheet, input.len(), &initial, &goal, &lengths, &mut space);
     write_answer(answer, &space, out)
 }
 
@@ -43,8 +44,13 @@ pub fn respond(input: &[u8], out: &mut [u8]) -> usize
 pub fn wanted(input: &[u8]) -> usize
     ensures { λ r. ⌜ r ≡ wanted (now (input .entry)) ⌝ }
 {
-    let head = records::read_record(Kind::Hd, input, 0);
-    let Found::Record { first, second } = head else {
+    let head = sheets::read_head(input, 0);
+    let Head::There {
+        measured,
+        n: first,
+        method: second,
+    } = head
+    else {
         return up_to(HEAD, input.len());
     };
     let named = planner::method_of(second);
@@ -52,7 +58,9 @@ pub fn wanted(input: &[u8]) -> usize
         return 0;
     };
     if input.len() < decided_by(input) {
-        up_to(HEAD + 2 * ENTRY * lists::wide(first) + 1, input.len())
+        let n = lists::wide(first);
+        let k = sheets::length_count(measured, n);
+        up_to(HEAD + ENTRY * (2 * n + k) + 1, input.len())
     } else {
         0
     }
@@ -64,7 +72,8 @@ fn decided_by(input: &[u8]) -> usize
 {
     let mut initial = [0u16; MOST];
     let mut goal = [0u16; MOST];
-    let sheet = sheets::read_sheet(input, 0, &mut initial, &mut goal);
+    let mut lengths = [0u16; MOST];
+    let sheet = sheets::read_sheet(input, 0, &mut initial, &mut goal, &mut lengths);
     match sheet {
         Sheet::Headless => HEAD,
         Sheet::Long { method: _ } => HEAD,
@@ -72,6 +81,7 @@ fn decided_by(input: &[u8]) -> usize
         Sheet::Whole {
             n: _,
             method: _,
+            measured: _,
             end,
         } => end + 1,
     }
@@ -90,10 +100,11 @@ fn ask(
     size: usize,
     initial: &[u16; MOST],
     goal: &[u16; MOST],
+    lengths: &[u16; MOST],
     space: &mut [u16],
 ) -> Planned
     requires { ⌜ Askable sheet ⌝ }
-    ensures { λ r. ⌜ Asks sheet size (now (initial .entry)) (now (goal .entry)) (now (space .entry)) r (now (space .exit)) ⌝ }
+    ensures { λ r. ⌜ Asks sheet size (now (initial .entry)) (now (goal .entry)) (now (lengths .entry)) (now (space .entry)) r (now (space .exit)) ⌝ }
 {
     match sheet {
         Sheet::Headless => Planned::Refused {
@@ -102,13 +113,27 @@ fn ask(
         },
         Sheet::Long { method } => refused(method, 2, 0),
         Sheet::Broken { method, before } => refused(method, 12, before),
-        Sheet::Whole { n, method, end } => {
+        Sheet::Whole {
+            n,
+            method,
+            measured,
+            end,
+        } => {
+            let k = sheets::length_count(measured, n);
             if size != end {
-                refused(method, 12, (2 * n + 1) as u16)
+                refused(method, 12, (2 * n + k + 1) as u16)
             } else {
                 let nows: &[u16] = initial;
                 let goals: &[u16] = goal;
-                planner::plan(method, &nows[..n], &goals[..n], space)
+                let measures: &[u16] = lengths;
+                planner::plan_with(
+                    method,
+                    &nows[..n],
+                    &goals[..n],
+                    measured,
+                    &measures[..k],
+                    space,
+                )
             }
         }
     }

@@ -1,17 +1,26 @@
 -- The exported answers are those of the library, case by case. Assumes nothing.
-use Prim.Native.Nat.{ℕ}
-use mathlib.Core.Path.{_≡_, refl, sym, ap, _∙_, subst}
+use Prim.Native.Nat.{ℕ, _*_}
+use mathlib.Core.Path.{_≡_, refl, sym, ap, ap₂, _∙_, subst}
 use mathlib.Core.Logic.{_≢_}
-use mathlib.Core.List.{List}
+use mathlib.Core.Bool.{Bool}
+use mathlib.Core.List.{List, _++_}
+use mathlib.Core.Option.{none, some}
 use native.Mathlib.Omega.{arith}
-use lib.ListN.{take}
+use lib.ListN.{length, take}
 use Rattle.blocks.specs.State.{State}
 use Rattle.blocks.specs.Loop.{memberᵇ}
-use Rattle.blocks.specs.Question.{PlanRefused, planQuestions, DeadlockRefused, deadlockQuestions}
+use Rattle.blocks.specs.Question.{Question, numbers, problemQuestions, stateQuestions, asksMethod, asksSize, asksSame, asksOutside, asksShared, asksFloating}
+use Rattle.blocks.specs.Question.{asksRoom, asksPlan}
+use Rattle.blocks.specs.Answer.{checkAnswer, noVerdict}
+use Rattle.blocks.specs.Demands.{NoDeadlock, Shown}
+use Rattle.blocks.specs.Length.{Lengths, given}
+use Rattle.blocks.specs.With.{problemQuestionsWith, planQuestionsWith, PlanRefusedWith, deadlockQuestionsWith, DeadlockRefusedWith}
+use Rattle.blocks.specs.With.{checkAnswerWith, replayAnswerWith}
 use Rattle.blocks.proofs.QuestionLaws.{other-number}
-use Rattle.blocks.proofs.DecidedLaws.{plan-order, deadlock-order}
-use Rattle.blocks.proofs.Theorems.{theorems}
-use Rattle.blocks.specs.Answer.{checkAnswer, noVerdict, replayAnswer}
+use Rattle.blocks.proofs.LengthLaws.{solves-any, accepted-any}
+use Rattle.blocks.proofs.WithLaws.{problem-none, behind-order, as-before}
+use Rattle.blocks.proofs.WithTheorems.{with-theorems, promise-plain, head-count-plain}
+use Rattle.lengths.specs.Checks.{ChecksWith}
 use Rattle.problem.specs.Checked as problem
 use Rattle.problem.specs.declared.Checked as checked
 use Rattle.planner.specs.Answers as planner
@@ -26,86 +35,170 @@ use Rattle.training.specs.Answers as training
 use Rattle.training.specs.declared.Trained as trained
 use Rattle.training.specs.declared.Drawn as drawn
 use Rattle.training.proofs.Theorems.{promises}
-use Rattle.topjeska.specs.Exports.{asCheck, asReplay, ExportsPlan, ExportsDeadlock, ExportsReplay, asTraining, ExportsTraining, ExportsDraw}
+use Rattle.topjeska.specs.Options.{lengthsBit, optionSet, lengthsOf}
+use Rattle.topjeska.specs.Exports.{asCheck, asPlan, asDeadlock, asReplay, asTraining, ExportsTraining, ExportsDraw}
+use Rattle.topjeska.specs.Exports.{ExportsPlan, ExportsPlanWith, ExportsDeadlock, ExportsDeadlockWith, ExportsReplay, ExportsReplayWith}
+use Rattle.topjeska.specs.declared.CheckAnswer.{CheckAnswer}
+use Rattle.topjeska.specs.declared.PlanAnswer.{PlanAnswer}
+use Rattle.topjeska.specs.declared.DeadlockAnswer.{DeadlockAnswer}
 use Rattle.topjeska.specs.declared.ReplayAnswer.{ReplayAnswer}
 use Rattle.topjeska.specs.declared.TrainingAnswer.{TrainingAnswer}
 
+-- ---- no refusal has the number 0
+
+problem-numbers : (ls : Lengths) (s g : State) (rs : List Question) → memberᵇ 0 (numbers (problemQuestionsWith ls s g ++ rs)) ≡ memberᵇ 0 (numbers rs)
+unfolding problemQuestions stateQuestions asksSize asksSame asksOutside asksShared asksFloating
+problem-numbers none s g rs = ap (λ qs. memberᵇ 0 (numbers (qs ++ rs))) (problem-none s g)
+problem-numbers (some l) s g rs = ap (memberᵇ 0) (behind-order l s g rs)
+
+plan-number : (ls : Lengths) (m : ℕ) (s g : State) (space : List ℕ) (k p : ℕ) → PlanRefusedWith ls m s g space k p → k ≢ 0
+unfolding planQuestionsWith asksMethod asksRoom asksPlan
+plan-number ls m s g space k p r = other-number (planQuestionsWith ls m s g space) 0 (problem-numbers ls s g _) k p r
+
+deadlock-number : (ls : Lengths) (s g : State) (space : List ℕ) (k p : ℕ) → DeadlockRefusedWith ls s g space k p → k ≢ 0
+unfolding deadlockQuestionsWith asksRoom
+deadlock-number ls s g space k p r = other-number (deadlockQuestionsWith ls s g space) 0 (problem-numbers ls s g _) k p r
+
 -- ---- checking
 
-module _ {s g : State} {c : checked.Checked} (w : problem.Checks s g c) where
-  pub check-accepted : c ≡ checked.the-variants.Accepted → asCheck (record { refusal = 0; place = 0 }) ≡ checkAnswer s g
-  check-accepted e = ap problem.answerOf (sym e) ∙ w .answer
+module _ {c : checked.Checked} where
+  pub check-accepted : c ≡ checked.the-variants.Accepted → asCheck (record { refusal = 0; place = 0 }) ≡ problem.answerOf c
+  check-accepted e = ap problem.answerOf (sym e)
 
-  pub check-refused : {k p : ℕ} → c ≡ checked.the-variants.Refused k p → asCheck (record { refusal = k; place = p }) ≡ checkAnswer s g
-  check-refused e = ap problem.answerOf (sym e) ∙ w .answer
+  pub check-refused : {k p : ℕ} → c ≡ checked.the-variants.Refused k p → asCheck (record { refusal = k; place = p }) ≡ problem.answerOf c
+  check-refused e = ap problem.answerOf (sym e)
+
+pub check-plain : (s g : State) {a : CheckAnswer} → asCheck a ≡ checkAnswerWith none s g → asCheck a ≡ checkAnswer s g
+check-plain s g e = e ∙ as-before .check s g
 
 -- ---- planning
 
--- no refusal has the number 0
-plan-number : (m : ℕ) (s g : State) (space : List ℕ) (k p : ℕ) → PlanRefused m s g space k p → k ≢ 0
-plan-number m s g space k p r = other-number (planQuestions m s g space) 0 (ap (memberᵇ 0) (plan-order m s g space)) k p r
+module _ {r : planned.Planned} where
+  pub plan-refused : {k p : ℕ} → r ≡ planned.the-variants.Refused k p
+      → asPlan (record { refusal = k; place = p; count = 0; misplaced = 0 }) ≡ planner.answerOf r
+  plan-refused e = ap planner.answerOf (sym e)
 
-module _ {m : ℕ} {s g : State} {space : List ℕ} {r : planned.Planned} {space′ : List ℕ} (w : planner.Plans m s g space r space′) where
-  pub plan-refused : {k p : ℕ} → r ≡ planned.the-variants.Refused k p → ExportsPlan m s g space (record { refusal = k; place = p; count = 0; misplaced = 0 }) space′
-  plan-refused {k} {p} e =
-      let n : k ≢ 0 = plan-number m s g space k p (theorems .plan-refuses m s g space k p .0 (sym (w .asked) ∙ ap planner.askedOf e)) in
-      record {
-        answer = ap planner.answerOf (sym e) ∙ w .answer;
-        lent = w .lent;
-        told = λ z. absurd (n z);
-        promise = λ z. absurd (n z);
-        head-count = λ z. absurd (n z);
-      }
+  pub plan-made : {c d : ℕ} → r ≡ planned.the-variants.Made c d → asPlan (record { refusal = 0; place = 0; count = c; misplaced = d }) ≡ planner.answerOf r
+  plan-made e = ap planner.answerOf (sym e)
 
-  pub plan-made : {c d : ℕ} → r ≡ planned.the-variants.Made c d → ExportsPlan m s g space (record { refusal = 0; place = 0; count = c; misplaced = d }) space′
-  plan-made {c} {d} e =
-      record {
-        answer = ap planner.answerOf (sym e) ∙ w .answer;
-        lent = w .lent;
-        told = λ _. w .told c d e;
-        promise = λ _. w .promise c d e;
-        head-count = λ _. w .head-count c d e;
-      }
+plan-export : {ls : Lengths} {m : ℕ} {s g : State} {space : List ℕ} {r : planned.Planned} {space′ : List ℕ} {a : PlanAnswer}
+    → planner.PlansWith ls m s g space r space′ → asPlan a ≡ planner.answerOf r → ExportsPlanWith ls m s g space a space′
+plan-export {ls} {m} {s} {g} {space} {r} {space′} {a} w e =
+    record {
+      answer = e ∙ w .answer;
+      lent = w .lent;
+      told = λ z. w .told (a .count) (a .misplaced) (made r refl z);
+      promise = λ z. w .promise (a .count) (a .misplaced) (made r refl z);
+      head-count = λ z. w .head-count (a .count) (a .misplaced) (made r refl z);
+    }
+  where
+    -- an answer that is no refusal has the numbers of its plan
+    made : (q : planned.Planned) → q ≡ r → a .refusal ≡ 0 → r ≡ planned.the-variants.Made (a .count) (a .misplaced)
+    made (planned.the-variants.Refused k p) i z =
+        let same : asPlan a ≡ planner.answerOf (planned.the-variants.Refused k p) = e ∙ ap planner.answerOf (sym i) in
+        let refused = with-theorems .plan-refuses ls m s g space k p .0 (sym (w .asked) ∙ ap planner.askedOf (sym i)) in
+        absurd (plan-number ls m s g space k p refused (sym (ap (λ o. o .number) same) ∙ z))
+    made (planned.the-variants.Made c d) i z =
+        let same : asPlan a ≡ planner.answerOf (planned.the-variants.Made c d) = e ∙ ap planner.answerOf (sym i) in
+        sym i ∙ ap₂ planned.the-variants.Made (sym (ap (λ o. o .count) same)) (sym (ap (λ o. o .misplaced) same))
+
+pub plan-plain : {m : ℕ} {s g : State} {space : List ℕ} {a : PlanAnswer} {space′ : List ℕ}
+    → ExportsPlanWith none m s g space a space′ → ExportsPlan m s g space a space′
+plan-plain {m} {s} {g} {space} w =
+    record {
+      answer = w .answer ∙ as-before .plan m s g space;
+      lent = w .lent ∙ as-before .plan-space m s g space;
+      told = w .told;
+      promise = λ z by o. promise-plain (w .promise z by o);
+      head-count = λ z. head-count-plain (w .head-count z);
+    }
 
 -- ---- the deadlock test
 
-deadlock-number : (s g : State) (space : List ℕ) (k p : ℕ) → DeadlockRefused s g space k p → k ≢ 0
-deadlock-number s g space k p r = other-number (deadlockQuestions s g space) 0 (ap (memberᵇ 0) (deadlock-order s g space)) k p r
+module _ {r : tested.Tested} where
+  pub deadlock-refused : {k p : ℕ} → r ≡ tested.the-variants.Refused k p → asDeadlock (record { refusal = k; place = p; count = 0 }) ≡ deadlocks.answerOf r
+  deadlock-refused e = ap deadlocks.answerOf (sym e)
 
-module _ {s g : State} {space : List ℕ} {r : tested.Tested} {space′ : List ℕ} (w : deadlocks.TestsDeadlock s g space r space′) where
-  pub deadlock-refused : {k p : ℕ} → r ≡ tested.the-variants.Refused k p → ExportsDeadlock s g space (record { refusal = k; place = p; count = 0 }) space′
-  deadlock-refused {k} {p} e =
-      let n : k ≢ 0 = deadlock-number s g space k p (theorems .deadlock-refuses s g space k p .0 (sym (w .asked) ∙ ap deadlocks.askedOf e)) in
-      record { answer = ap deadlocks.answerOf (sym e) ∙ w .answer; lent = w .lent; free = λ z _. absurd (n z); shown = λ z _. absurd (n z) }
+  pub deadlock-free : r ≡ tested.the-variants.Free → asDeadlock (record { refusal = 0; place = 0; count = 0 }) ≡ deadlocks.answerOf r
+  deadlock-free e = ap deadlocks.answerOf (sym e)
 
-  pub deadlock-free : r ≡ tested.the-variants.Free → ExportsDeadlock s g space (record { refusal = 0; place = 0; count = 0 }) space′
-  deadlock-free e =
-      record { answer = ap deadlocks.answerOf (sym e) ∙ w .answer; lent = w .lent; free = λ _ _. w .none e; shown = λ _ n. absurd (n refl) }
+  pub deadlock-found : {c : ℕ} → r ≡ tested.the-variants.Deadlocked c → asDeadlock (record { refusal = 0; place = 0; count = c }) ≡ deadlocks.answerOf r
+  deadlock-found e = ap deadlocks.answerOf (sym e)
 
-  pub deadlock-found : {c : ℕ} → r ≡ tested.the-variants.Deadlocked c → ExportsDeadlock s g space (record { refusal = 0; place = 0; count = c }) space′
-  deadlock-found {c} e =
-      record {
-        answer = ap deadlocks.answerOf (sym e) ∙ w .answer;
-        lent = w .lent;
-        free = λ _ z. let v = w .some c e in absurd (omega (arith, v .2 .deadlock .some, v .1, z));
-        shown = λ _ _. w .some c e;
-      }
+deadlock-export : {ls : Lengths} {s g : State} {space : List ℕ} {r : tested.Tested} {space′ : List ℕ} {a : DeadlockAnswer}
+    → deadlocks.TestsDeadlockWith ls s g space r space′ → asDeadlock a ≡ deadlocks.answerOf r → ExportsDeadlockWith ls s g space a space′
+deadlock-export {ls} {s} {g} {space} {r} {space′} {a} w e =
+    record { answer = e ∙ w .answer; lent = w .lent; free = λ z n. says r refl z .0 n; shown = λ z n. says r refl z .1 n }
+  where
+    -- what an answer that is no refusal says
+    says : (q : tested.Tested) → q ≡ r → a .refusal ≡ 0 → (a .count ≡ 0 → NoDeadlock s g)
+        × (a .count ≢ 0 → (blocks : List ℕ) × (length blocks ≡ a .count) × Shown s g blocks (take (2 * a .count) space′))
+    says (tested.the-variants.Refused k p) i z =
+        let same : asDeadlock a ≡ deadlocks.answerOf (tested.the-variants.Refused k p) = e ∙ ap deadlocks.answerOf (sym i) in
+        let refused = with-theorems .deadlock-refuses ls s g space k p .0 (sym (w .asked) ∙ ap deadlocks.askedOf (sym i)) in
+        absurd (deadlock-number ls s g space k p refused (sym (ap (λ o. o .number) same) ∙ z))
+    says tested.the-variants.Free i z =
+        let same : asDeadlock a ≡ deadlocks.answerOf tested.the-variants.Free = e ∙ ap deadlocks.answerOf (sym i) in
+        (λ _. w .none (sym i), λ n. absurd (n (ap (λ o. o .count) same)))
+    says (tested.the-variants.Deadlocked c) i z =
+        let same : asDeadlock a ≡ deadlocks.answerOf (tested.the-variants.Deadlocked c) = e ∙ ap deadlocks.answerOf (sym i) in
+        let count : a .count ≡ c = ap (λ o. o .count) same in
+        let v = w .some (a .count) (sym i ∙ ap tested.the-variants.Deadlocked (sym count)) in
+        (λ n. absurd (omega (arith, v .2 .deadlock .some, v .1, n)), λ _. v)
+
+pub deadlock-plain : {s g : State} {space : List ℕ} {a : DeadlockAnswer} {space′ : List ℕ} → ExportsDeadlockWith none s g space a space′
+    → ExportsDeadlock s g space a space′
+deadlock-plain {s} {g} {space} w =
+    record { answer = w .answer ∙ as-before .deadlock s g space; lent = w .lent ∙ as-before .deadlock-space s g space; free = w .free; shown = w .shown }
 
 -- ---- replay
 
+module _ {r : replayed.Replayed} where
+  pub replay-refused : {k p : ℕ} → r ≡ replayed.the-variants.Refused k p
+      → asReplay (record { refusal = k; verdict = noVerdict; place = p }) ≡ validator.answerOf r
+  replay-refused e = ap validator.answerOf (sym e)
+
+  pub replay-judged : {v p : ℕ} → r ≡ replayed.the-variants.Judged v p → asReplay (record { refusal = 0; verdict = v; place = p }) ≡ validator.answerOf r
+  replay-judged e = ap validator.answerOf (sym e)
+
 -- the answer of the definition, and what its verdict 0 says
-replay-exported : {s g : State} {lifts : List ℕ} {r : ReplayAnswer} → asReplay r ≡ replayAnswer s g lifts → ExportsReplay s g lifts r
-replay-exported {s} {g} {lifts} e =
-    let said = theorems .replay-zero s g lifts in
-    let same = ap (λ a. a .verdict) e in
-    record { answer = e; arrives = (λ z. said .0 (sym same ∙ z), λ k. same ∙ said .1 k) }
+replay-export : {ls : Lengths} {s g : State} {lifts : List ℕ} {r : replayed.Replayed} {a : ReplayAnswer} → validator.ReplaysWith ls s g lifts r
+    → asReplay a ≡ validator.answerOf r → ExportsReplayWith ls s g lifts a
+replay-export {ls} {s} {g} {lifts} {a = a} w e =
+    let answer : asReplay a ≡ replayAnswerWith ls s g lifts = e ∙ w .answer in
+    let said = with-theorems .replay-zero ls s g lifts in
+    let same = ap (λ o. o .verdict) answer in
+    record { answer = answer; arrives = (λ z. said .0 (sym same ∙ z), λ k. same ∙ said .1 k) }
 
-module _ {s g : State} {lifts : List ℕ} {r : replayed.Replayed} (w : validator.Replays s g lifts r) where
-  pub replay-refused : {k p : ℕ} → r ≡ replayed.the-variants.Refused k p → ExportsReplay s g lifts (record { refusal = k; verdict = noVerdict; place = p })
-  replay-refused e = replay-exported (ap validator.answerOf (sym e) ∙ w .answer)
+pub replay-plain : {s g : State} {lifts : List ℕ} {a : ReplayAnswer} → ExportsReplayWith none s g lifts a → ExportsReplay s g lifts a
+replay-plain {s} {g} {lifts} w =
+    record {
+      answer = w .answer ∙ as-before .replay s g lifts;
+      arrives = (
+        λ z. let h = w .arrives .0 z in (h .0 .accepted, h .1, h .2 .solves),
+        λ h. w .arrives .1 (accepted-any (h .0), h .1, solves-any (h .2)),
+      );
+    }
 
-  pub replay-judged : {v p : ℕ} → r ≡ replayed.the-variants.Judged v p → ExportsReplay s g lifts (record { refusal = 0; verdict = v; place = p })
-  replay-judged e = replay-exported (ap validator.answerOf (sym e) ∙ w .answer)
+-- ---- the lengths are those that the options give
+
+module _ (options : ℕ) (l : List ℕ) {t : Bool} (o : t ≡ optionSet options lengthsBit) {s g : State} where
+  pub check-exported : {c : checked.Checked} {a : CheckAnswer} → ChecksWith (given t l) s g c → asCheck a ≡ problem.answerOf c
+      → asCheck a ≡ checkAnswerWith (lengthsOf options l) s g
+  check-exported w e = rw (← o) (e ∙ w .answer)
+
+  pub plan-exported : {m : ℕ} {space : List ℕ} {r : planned.Planned} {space′ : List ℕ} {a : PlanAnswer} → planner.PlansWith (given t l) m s g space r space′
+      → asPlan a ≡ planner.answerOf r → ExportsPlanWith (lengthsOf options l) m s g space a space′
+  plan-exported w e = rw (← o) (plan-export w e)
+
+  pub deadlock-exported : {space : List ℕ} {r : tested.Tested} {space′ : List ℕ} {a : DeadlockAnswer}
+      → deadlocks.TestsDeadlockWith (given t l) s g space r space′ → asDeadlock a ≡ deadlocks.answerOf r
+      → ExportsDeadlockWith (lengthsOf options l) s g space a space′
+  deadlock-exported w e = rw (← o) (deadlock-export w e)
+
+  pub replay-exported : {lifts : List ℕ} {r : replayed.Replayed} {a : ReplayAnswer} → validator.ReplaysWith (given t l) s g lifts r
+      → asReplay a ≡ validator.answerOf r → ExportsReplayWith (lengthsOf options l) s g lifts a
+  replay-exported w e = rw (← o) (replay-export w e)
 
 -- ---- training
 

@@ -13,6 +13,9 @@ use Rattle.blocks.specs.Answer.{moves, planAnswer, planSpace, deadlockAnswer, d
 use Rattle.blocks.specs.Method.{methodOf, Method}
 use Rattle.blocks.specs.Steps.{By}
 use Rattle.blocks.specs.Demands.{HeadCount, Promise, NoDeadlock, Shown}
+use Rattle.blocks.specs.Length.{Lengths, AcceptedWith, SolvesWith}
+use Rattle.blocks.specs.With.{planAnswerWith, planSpaceWith, deadlockAnswerWith, deadlockSpaceWith, replayAnswerWith}
+use Rattle.blocks.specs.WithDemands.{HeadCountWith, PromiseWith}
 use Rattle.topjeska.specs.declared.CheckAnswer.{CheckAnswer}
 use Rattle.topjeska.specs.declared.PlanAnswer.{PlanAnswer}
 use Rattle.topjeska.specs.declared.DeadlockAnswer.{DeadlockAnswer}
@@ -46,6 +49,14 @@ pub record ExportsPlan (m : ℕ) (s g : State) (space : List ℕ) (r : PlanAnswe
   pub promise : r .refusal ≡ 0 → (method : Method) → methodOf m ≡ some method → Promise method s g (moves (take (2 * r .count) space′))
   pub head-count : r .refusal ≡ 0 → HeadCount s g (r .misplaced)
 
+-- The same with lengths: what is promised is under their rule.
+pub record ExportsPlanWith (ls : Lengths) (m : ℕ) (s g : State) (space : List ℕ) (r : PlanAnswer) (space′ : List ℕ) : Type 0 where
+  pub answer : asPlan r ≡ planAnswerWith ls m s g space
+  pub lent : space′ ≡ planSpaceWith ls m s g space
+  pub told : r .refusal ≡ 0 → (method : Method) → methodOf m ≡ some method → By method s g (moves (take (2 * r .count) space′))
+  pub promise : r .refusal ≡ 0 → (method : Method) → methodOf m ≡ some method → PromiseWith ls method s g (moves (take (2 * r .count) space′))
+  pub head-count : r .refusal ≡ 0 → HeadCountWith ls s g (r .misplaced)
+
 -- The deadlock test: the answer that the definition gives, the lent space whole; count 0 says that no blocks are deadlocked at the start, another count
 -- that the pairs show blocks that are.
 pub record ExportsDeadlock (s g : State) (space : List ℕ) (r : DeadlockAnswer) (space′ : List ℕ) : Type 0 where
@@ -54,10 +65,22 @@ pub record ExportsDeadlock (s g : State) (space : List ℕ) (r : DeadlockAnswer)
   pub free : r .refusal ≡ 0 → r .count ≡ 0 → NoDeadlock s g
   pub shown : r .refusal ≡ 0 → r .count ≢ 0 → (blocks : List ℕ) × (length blocks ≡ r .count) × Shown s g blocks (take (2 * r .count) space′)
 
+-- The same with lengths.
+pub record ExportsDeadlockWith (ls : Lengths) (s g : State) (space : List ℕ) (r : DeadlockAnswer) (space′ : List ℕ) : Type 0 where
+  pub answer : asDeadlock r ≡ deadlockAnswerWith ls s g space
+  pub lent : space′ ≡ deadlockSpaceWith ls s g space
+  pub free : r .refusal ≡ 0 → r .count ≡ 0 → NoDeadlock s g
+  pub shown : r .refusal ≡ 0 → r .count ≢ 0 → (blocks : List ℕ) × (length blocks ≡ r .count) × Shown s g blocks (take (2 * r .count) space′)
+
 -- Replay: the answer that the definition gives; verdict 0 says that the lists are a sheet, and that every lift of the list is legal and its end is the goal.
 pub record ExportsReplay (s g : State) (lifts : List ℕ) (r : ReplayAnswer) : Type 0 where
   pub answer : asReplay r ≡ replayAnswer s g lifts
   pub arrives : (r .verdict ≡ 0) ↔ (Accepted s g × (length lifts % 2 ≡ 0) × Solves s g (moves lifts))
+
+-- The same with lengths: verdict 0 says that the sheet is accepted with them, and that every lift is legal under their rule.
+pub record ExportsReplayWith (ls : Lengths) (s g : State) (lifts : List ℕ) (r : ReplayAnswer) : Type 0 where
+  pub answer : asReplay r ≡ replayAnswerWith ls s g lifts
+  pub arrives : (r .verdict ≡ 0) ↔ (AcceptedWith ls s g × (length lifts % 2 ≡ 0) × SolvesWith ls s g (moves lifts))
 
 -- Training from a number: the answer that the definition gives, the lent list whole; and that questions 4 to 6 accept what is written.
 pub record ExportsTraining (n r : ℕ) (space : List ℕ) (a : TrainingAnswer) (space′ : List ℕ) : Type 0 where

@@ -1,8 +1,16 @@
 // What C and Rust link: the operations with answers of plain numbers. include/topjeska.h declares them.
 ghost use mathlib.Core.Path.{_≡_};
+ghost use mathlib.Core.Logic.{_≢_};
 ghost use Rattle.blocks.specs.Answer.{checkAnswer};
+ghost use Rattle.blocks.specs.With.{checkAnswerWith};
+ghost use Rattle.problem.specs.Checked.{answerOf as checkedAs};
+ghost use Rattle.planner.specs.Answers.{answerOf as plannedAs};
+ghost use Rattle.deadlocks.specs.Answers.{answerOf as testedAs};
+ghost use Rattle.validator.specs.Replayed.{answerOf as replayedAs};
 ghost use Rattle.training.specs.Answers.{answerOf};
-ghost use Rattle.topjeska.specs.Exports.{asCheck, ExportsPlan, ExportsDeadlock, ExportsReplay, asTraining, ExportsTraining, ExportsDraw};
+ghost use Rattle.topjeska.specs.Options.{optionSet, lengthsOf};
+ghost use Rattle.topjeska.specs.Exports.{asCheck, asPlan, asDeadlock, asReplay, asTraining, ExportsTraining, ExportsDraw};
+ghost use Rattle.topjeska.specs.Exports.{ExportsPlan, ExportsPlanWith, ExportsDeadlock, ExportsDeadlockWith, ExportsReplay, ExportsReplayWith};
 use deadlocks::Tested;
 use generator::Generator;
 use planner::Planned;
@@ -53,22 +61,29 @@ struct DrawAnswer {
 // What a refused replay has in place of a verdict.
 const NO_VERDICT: u64 = 65535;
 
+// The bits of `options`. Those that are not named are not looked at.
+const LENGTHS: u16 = 1;
+
 // Questions 2 to 9.
 #[no_mangle]
 pub extern "C" fn topjeska_check(initial: &[u16], goal: &[u16]) -> CheckAnswer
     ensures { λ r. ⌜ asCheck r ≡ checkAnswer (now (initial .entry)) (now (goal .entry)) ⌝ }
 {
-    let checked = problem::check(initial, goal);
-    match checked {
-        Checked::Accepted => CheckAnswer {
-            refusal: 0,
-            place: 0,
-        },
-        Checked::Refused { number, place } => CheckAnswer {
-            refusal: number as u64,
-            place: place as u64,
-        },
-    }
+    topjeska_check_with(0, initial, goal, &initial[..0])
+}
+
+// The same with options: with lengths also questions 16 to 18. Without their bit the lengths are not looked at.
+#[no_mangle]
+pub extern "C" fn topjeska_check_with(
+    options: u16,
+    initial: &[u16],
+    goal: &[u16],
+    lengths: &[u16],
+) -> CheckAnswer
+    ensures { λ r. ⌜ asCheck r ≡ checkAnswerWith (lengthsOf options (now (lengths .entry))) (now (initial .entry)) (now (goal .entry)) ⌝ }
+{
+    let measured = has_option(options, LENGTHS);
+    check_numbers(lengths::check(initial, goal, measured, lengths))
 }
 
 // Planning: the pairs are written from the front of the lent space.
@@ -81,21 +96,23 @@ pub extern "C" fn topjeska_plan(
 ) -> PlanAnswer
     ensures { λ r. ⌜ ExportsPlan method (now (initial .entry)) (now (goal .entry)) (now (out .entry)) r (now (out .exit)) ⌝ }
 {
-    let planned = planner::plan(method, initial, goal, out);
-    match planned {
-        Planned::Refused { number, place } => PlanAnswer {
-            refusal: number as u64,
-            place: place as u64,
-            count: 0,
-            misplaced: 0,
-        },
-        Planned::Made { count, misplaced } => PlanAnswer {
-            refusal: 0,
-            place: 0,
-            count: count as u64,
-            misplaced: misplaced as u64,
-        },
-    }
+    topjeska_plan_with(0, method, initial, goal, &initial[..0], out)
+}
+
+// The same with options.
+#[no_mangle]
+pub extern "C" fn topjeska_plan_with(
+    options: u16,
+    method: u16,
+    initial: &[u16],
+    goal: &[u16],
+    lengths: &[u16],
+    out: &mut [u16],
+) -> PlanAnswer
+    ensures { λ r. ⌜ ExportsPlanWith (lengthsOf options (now (lengths .entry))) method (now (initial .entry)) (now (goal .entry)) (now (out .entry)) r (now (out .exit)) ⌝ }
+{
+    let measured = has_option(options, LENGTHS);
+    plan_numbers(planner::plan_with(method, initial, goal, measured, lengths, out))
 }
 
 // The deadlock test: the pairs are written from the front of the lent space; count 0 says that nothing is deadlocked.
@@ -107,24 +124,22 @@ pub extern "C" fn topjeska_deadlock(
 ) -> DeadlockAnswer
     ensures { λ r. ⌜ ExportsDeadlock (now (initial .entry)) (now (goal .entry)) (now (out .entry)) r (now (out .exit)) ⌝ }
 {
-    let tested = deadlocks::deadlock(initial, goal, out);
-    match tested {
-        Tested::Refused { number, place } => DeadlockAnswer {
-            refusal: number as u64,
-            place: place as u64,
-            count: 0,
-        },
-        Tested::Free => DeadlockAnswer {
-            refusal: 0,
-            place: 0,
-            count: 0,
-        },
-        Tested::Deadlocked { count } => DeadlockAnswer {
-            refusal: 0,
-            place: 0,
-            count: count as u64,
-        },
-    }
+    topjeska_deadlock_with(0, initial, goal, &initial[..0], out)
+}
+
+// The same with options.
+#[no_mangle]
+pub extern "C" fn topjeska_deadlock_with(
+    options: u16,
+    initial: &[u16],
+    goal: &[u16],
+    lengths: &[u16],
+    out: &mut [u16],
+) -> DeadlockAnswer
+    ensures { λ r. ⌜ ExportsDeadlockWith (lengthsOf options (now (lengths .entry))) (now (initial .entry)) (now (goal .entry)) (now (out .entry)) r (now (out .exit)) ⌝ }
+{
+    let measured = has_option(options, LENGTHS);
+    deadlock_numbers(deadlocks::deadlock_with(initial, goal, measured, lengths, out))
 }
 
 // Replay of a list of lifts.
@@ -132,19 +147,22 @@ pub extern "C" fn topjeska_deadlock(
 pub extern "C" fn topjeska_replay(initial: &[u16], goal: &[u16], lifts: &[u16]) -> ReplayAnswer
     ensures { λ r. ⌜ ExportsReplay (now (initial .entry)) (now (goal .entry)) (now (lifts .entry)) r ⌝ }
 {
-    let replayed = validator::validate(initial, goal, lifts);
-    match replayed {
-        Replayed::Refused { number, place } => ReplayAnswer {
-            refusal: number as u64,
-            verdict: NO_VERDICT,
-            place: place as u64,
-        },
-        Replayed::Judged { verdict, place } => ReplayAnswer {
-            refusal: 0,
-            verdict: verdict as u64,
-            place: place as u64,
-        },
-    }
+    topjeska_replay_with(0, initial, goal, &initial[..0], lifts)
+}
+
+// The same with options: with lengths also verdict 6.
+#[no_mangle]
+pub extern "C" fn topjeska_replay_with(
+    options: u16,
+    initial: &[u16],
+    goal: &[u16],
+    lengths: &[u16],
+    lifts: &[u16],
+) -> ReplayAnswer
+    ensures { λ r. ⌜ ExportsReplayWith (lengthsOf options (now (lengths .entry))) (now (initial .entry)) (now (goal .entry)) (now (lifts .entry)) r ⌝ }
+{
+    let measured = has_option(options, LENGTHS);
+    replay_numbers(validator::validate_with(initial, goal, measured, lengths, lifts))
 }
 
 // Training: the state of a number, written over the first n entries of the lent list.
@@ -195,6 +213,88 @@ fn in_numbers(trained: Trained) -> TrainingAnswer
         Trained::Written => TrainingAnswer {
             refusal: 0,
             place: 0,
+        },
+    }
+}
+
+// Whether a bit of the options is set.
+fn has_option(options: u16, bit: u16) -> bool
+    requires { ⌜ bit ≢ 0 ⌝ }
+    ensures { λ r. ⌜ r ≡ optionSet options bit ⌝ }
+{
+    options / bit % 2 == 1
+}
+
+// The answers of the other operations in the documents' numbers.
+fn check_numbers(checked: Checked) -> CheckAnswer
+    ensures { λ a. ⌜ asCheck a ≡ checkedAs checked ⌝ }
+{
+    match checked {
+        Checked::Accepted => CheckAnswer {
+            refusal: 0,
+            place: 0,
+        },
+        Checked::Refused { number, place } => CheckAnswer {
+            refusal: number as u64,
+            place: place as u64,
+        },
+    }
+}
+
+fn plan_numbers(planned: Planned) -> PlanAnswer
+    ensures { λ a. ⌜ asPlan a ≡ plannedAs planned ⌝ }
+{
+    match planned {
+        Planned::Refused { number, place } => PlanAnswer {
+            refusal: number as u64,
+            place: place as u64,
+            count: 0,
+            misplaced: 0,
+        },
+        Planned::Made { count, misplaced } => PlanAnswer {
+            refusal: 0,
+            place: 0,
+            count: count as u64,
+            misplaced: misplaced as u64,
+        },
+    }
+}
+
+fn deadlock_numbers(tested: Tested) -> DeadlockAnswer
+    ensures { λ a. ⌜ asDeadlock a ≡ testedAs tested ⌝ }
+{
+    match tested {
+        Tested::Refused { number, place } => DeadlockAnswer {
+            refusal: number as u64,
+            place: place as u64,
+            count: 0,
+        },
+        Tested::Free => DeadlockAnswer {
+            refusal: 0,
+            place: 0,
+            count: 0,
+        },
+        Tested::Deadlocked { count } => DeadlockAnswer {
+            refusal: 0,
+            place: 0,
+            count: count as u64,
+        },
+    }
+}
+
+fn replay_numbers(replayed: Replayed) -> ReplayAnswer
+    ensures { λ a. ⌜ asReplay a ≡ replayedAs replayed ⌝ }
+{
+    match replayed {
+        Replayed::Refused { number, place } => ReplayAnswer {
+            refusal: number as u64,
+            verdict: NO_VERDICT,
+            place: place as u64,
+        },
+        Replayed::Judged { verdict, place } => ReplayAnswer {
+            refusal: 0,
+            verdict: verdict as u64,
+            place: place as u64,
         },
     }
 }

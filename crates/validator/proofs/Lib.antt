@@ -1,3 +1,4 @@
 pub mod FaultLaws
+pub mod LiftLaws
 pub mod FollowLaws
 pub mod ValidateLaws

@@ -2,8 +2,10 @@
 ghost use mathlib.Core.Path.{_≡_};
 ghost use Rattle.blocks.specs.Question.{firstNo};
 ghost use Rattle.blocks.specs.Replay.{moveQuestions};
+ghost use Rattle.blocks.specs.Length.{given, Counted};
+ghost use Rattle.blocks.specs.With.{liftQuestions};
 ghost use Rattle.problem.specs.Known.{Loads};
-ghost use Rattle.validator.specs.Replayed.{faultOf, Replays, Replayable, Follows};
+ghost use Rattle.validator.specs.Replayed.{faultOf, Replays, ReplaysWith, Replayable, Follows};
 use problem::Checked;
 use rows::CHECKED;
 use rows::LOADS;
@@ -20,8 +22,21 @@ pub enum Replayed {
 pub fn validate(initial: &[u16], goal: &[u16], moves: &[u16]) -> Replayed
     ensures { λ r. ⌜ Replays (now (initial .entry)) (now (goal .entry)) (now (moves .entry)) r ⌝ }
 {
+    validate_with(initial, goal, false, &initial[..0], moves)
+}
+
+// The same with questions 16 to 18 after 9, and verdict 6; where the problem is not measured, the lengths are not looked at.
+pub fn validate_with(
+    initial: &[u16],
+    goal: &[u16],
+    measured: bool,
+    lengths: &[u16],
+    moves: &[u16],
+) -> Replayed
+    ensures { λ r. ⌜ ReplaysWith (given measured (now (lengths .entry))) (now (initial .entry)) (now (goal .entry)) (now (moves .entry)) r ⌝ }
+{
     let mut rows = [[0u16; ROW]; CHECKED];
-    let checked = problem::examine(initial, goal, &mut rows);
+    let checked = lengths::examine(initial, goal, measured, lengths, &mut rows);
     if let Checked::Refused { number, place } = checked {
         return Replayed::Refused { number, place };
     }
@@ -31,32 +46,46 @@ pub fn validate(initial: &[u16], goal: &[u16], moves: &[u16]) -> Replayed
             place: 0,
         };
     }
-    judge(initial, goal, moves, &mut rows[LOADS])
+    judge(initial, goal, measured, lengths, moves, &mut rows[LOADS])
 }
 
 // The verdict of a list of pairs, for a problem already checked and the loads of its initial state, which follow the moves.
-pub fn judge(initial: &[u16], goal: &[u16], moves: &[u16], loads: &mut [u16]) -> Replayed
-    requires { ⌜ Replayable (now initial) (now goal) (now moves) (now loads) ⌝ }
-    ensures { λ r. ⌜ Follows (now (initial .entry)) (now (goal .entry)) (now (moves .entry)) r ⌝ }
+pub fn judge(
+    initial: &[u16],
+    goal: &[u16],
+    measured: bool,
+    lengths: &[u16],
+    moves: &[u16],
+    loads: &mut [u16],
+) -> Replayed
+    requires { ⌜ Replayable (given measured (now lengths)) (now initial) (now goal) (now moves) (now loads) ⌝ }
+    ensures { λ r. ⌜ Follows (given measured (now (lengths .entry))) (now (initial .entry)) (now (goal .entry)) (now (moves .entry)) r ⌝ }
 {
     let n = initial.len();
     let mut room = [0u16; MOST];
     let cur = &mut room[..n];
     lists::copy(initial, cur);
-    follow(cur, goal, moves, loads)
+    follow(cur, goal, measured, lengths, moves, loads)
 }
 
 // The same from the current state on, which the moves change.
-fn follow(cur: &mut [u16], goal: &[u16], moves: &[u16], loads: &mut [u16]) -> Replayed
-    requires { ⌜ Replayable (now cur) (now goal) (now moves) (now loads) ⌝ }
-    ensures { λ r. ⌜ Follows (now (cur .entry)) (now (goal .entry)) (now (moves .entry)) r ⌝ }
+fn follow(
+    cur: &mut [u16],
+    goal: &[u16],
+    measured: bool,
+    lengths: &[u16],
+    moves: &[u16],
+    loads: &mut [u16],
+) -> Replayed
+    requires { ⌜ Replayable (given measured (now lengths)) (now cur) (now goal) (now moves) (now loads) ⌝ }
+    ensures { λ r. ⌜ Follows (given measured (now (lengths .entry))) (now (cur .entry)) (now (goal .entry)) (now (moves .entry)) r ⌝ }
 {
     let count = moves.len() / 2;
     let mut k = 0;
     while k < count {
         let a = lists::wide(moves[2 * k]);
         let x = lists::wide(moves[2 * k + 1]);
-        let verdict = fault(cur, loads, a, x);
+        let verdict = lift_fault(cur, loads, measured, lengths, a, x);
         if verdict != 0 {
             return Replayed::Judged {
                 verdict,
@@ -76,6 +105,32 @@ fn follow(cur: &mut [u16], goal: &[u16], moves: &[u16], loads: &mut [u16]) -> Re
     Replayed::Judged {
         verdict: 0,
         place: 0,
+    }
+}
+
+// What is wrong with a move of a to x, first by the tests of a move and then by the lengths; 0 where it is legal and fits.
+fn lift_fault(
+    cur: &[u16],
+    loads: &[u16],
+    measured: bool,
+    lengths: &[u16],
+    a: usize,
+    x: usize,
+) -> u16
+    requires { ⌜ Loads (now cur) (now loads) × Counted (given measured (now lengths)) (now cur) ⌝ }
+    ensures { λ r. ⌜ faultOf r ≡ firstNo (liftQuestions (given measured (now (lengths .entry))) (now (cur .entry)) a x) ⌝ }
+{
+    let bad = fault(cur, loads, a, x);
+    if bad != 0 {
+        return bad;
+    }
+    if !measured {
+        return 0;
+    }
+    if lengths::too_long(lengths, a, x) {
+        6
+    } else {
+        0
     }
 }
 

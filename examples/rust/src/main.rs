@@ -1,7 +1,9 @@
-//! Sheets of document 01 through the library: their lifts, their deadlocks, a replay and a refusal; then a training
-//! sheet.
+//! Sheets of document 01 through the library: their lifts, their deadlocks, a replay and a refusal; then a sheet with
+//! lengths, and a training sheet.
 
-use topjeska::{check, deadlock, plan, replay, Generator, Method, ReplayError, Verdict};
+use topjeska::{
+    check, deadlock, ffi, plan, replay, Generator, Method, ReplayError, Sheet, Verdict,
+};
 
 fn main() -> Result<(), ReplayError> {
     let sheets: [(&str, &[u16], &[u16]); 3] = [
@@ -21,6 +23,8 @@ fn main() -> Result<(), ReplayError> {
         Err(refusal) => println!("2 1 5: {refusal}"),
         Ok(made) => println!("2 1 5: {made:?}"),
     }
+    let (_, now, goal) = sheets[1];
+    show_lengths(now, goal)?;
     let mut generator = Generator::new(7);
     let (mut now, mut goal) = ([0; 5], [0; 5]);
     for (which, out) in [("now", &mut now), ("goal", &mut goal)] {
@@ -41,6 +45,24 @@ fn show(name: &str, now: &[u16], goal: &[u16]) -> Result<(), ReplayError> {
     match replay(now, goal, &made.lifts)? {
         Verdict::Arrives => println!("{name} arrives"),
         other => println!("{name} does not arrive: {other:?}"),
+    }
+    Ok(())
+}
+
+/// Prints what the library says of S4 with lengths: its list, a lift onto a shorter slab, and the refusal where slab 4
+/// is too short.
+fn show_lengths(now: &[u16], goal: &[u16]) -> Result<(), ReplayError> {
+    let sheet = Sheet::new(now, goal).lengths(&[250, 300, 200, 300]);
+    let mut space = [[0; 2]; ffi::plan_space(4) / 2];
+    let made = sheet.plan(Method::Gn1, &mut space)?;
+    println!("S4 with lengths lifts{}", listed(made.lifts, "->"));
+    match sheet.replay(&[[1, 3]])? {
+        Verdict::TooLong { lift } => println!("S4 with lengths, 1->3: lift {lift} is too long"),
+        other => println!("S4 with lengths, 1->3: {other:?}"),
+    }
+    match sheet.lengths(&[250, 300, 200, 200]).check() {
+        Err(refusal) => println!("S4 with a shorter slab 4: {refusal}"),
+        Ok(()) => println!("S4 with a shorter slab 4: accepted"),
     }
     Ok(())
 }

@@ -6,6 +6,28 @@ pub struct Problem {
     pub goal: Vec<u16>,
 }
 
+impl Problem {
+    /// Lengths from 200 to 1,199 cm, cut so that no block overhangs in either state.
+    pub fn lengths(&self) -> Vec<u16> {
+        let mut random = Random(0xd1b5_4a32_d192_ed03);
+        let mut lengths: Vec<u16> = Vec::new();
+        lengths.resize_with(self.initial.len(), || 200 + random.below(1000) as u16);
+        loop {
+            let before = lengths.clone();
+            for state in [&self.initial, &self.goal] {
+                for (i, &support) in state.iter().enumerate() {
+                    if support != 0 {
+                        lengths[i] = lengths[i].min(lengths[usize::from(support) - 1]);
+                    }
+                }
+            }
+            if lengths == before {
+                return lengths;
+            }
+        }
+    }
+}
+
 /// A family's name and its problem of about n blocks.
 pub type Family = (&'static str, fn(usize) -> Problem);
 

@@ -1,4 +1,5 @@
-//! Measures the library beside plain Rust: medians, ratios and growth, held to the budget.
+//! Measures the library beside plain Rust, and with lengths beside itself without: medians, ratios and growth, held to
+//! the budget.
 
 mod families;
 
@@ -28,12 +29,13 @@ const TRIES: usize = 3;
 
 #[derive(Clone, Copy, PartialEq, Eq)]
 enum Operation {
+    Check,
     Plan(u16),
     Deadlock,
     Replay,
 }
 
-use Operation::{Deadlock, Plan, Replay};
+use Operation::{Check, Deadlock, Plan, Replay};
 
 /// The operations, and why the budget does not bound the growth of one.
 const OPERATIONS: [(&str, Operation, Option<&str>); 5] = [
@@ -48,9 +50,29 @@ const OPERATIONS: [(&str, Operation, Option<&str>); 5] = [
     ("replay", Replay, Some("for which none was asked")),
 ];
 
-/// What one call is lent: the problem, the space, and the list that is replayed.
+/// The families that are measured with lengths, the operations, and how much more time each may take with them: one
+/// pass over the sheet, where a check is some.
+const WITH_LENGTHS: [&str; 2] = ["random-tall", "s4"];
+const LENGTH_OPERATIONS: [(&str, Operation, f64); 2] = [
+    ("check", Check, 1.6),
+    ("plan 2", Plan(ffi::METHOD_GN1), 1.2),
+];
+
+/// Who makes a call: the library, or plain Rust; with lengths or without.
+#[derive(Clone, Copy, PartialEq, Eq)]
+enum Side {
+    Ours,
+    Plain,
+    OursWith,
+    PlainWith,
+}
+
+use Side::{Ours, OursWith, Plain, PlainWith};
+
+/// What one call is lent: the problem with its lengths, the space, and the list that is replayed.
 struct Lent {
     problem: Problem,
+    lengths: Vec<u16>,
     space: Vec<u16>,
     moves: Vec<u16>,
 }
@@ -58,88 +80,169 @@ struct Lent {
 impl Lent {
     fn new(problem: Problem, operation: Operation) -> Self {
         let n = problem.initial.len();
-        let mut space = vec![0; 4 * n];
-        let made = plain::plan(1, &problem.initial, &problem.goal, &mut space);
-        let moves = space[..2 * made.count as usize].to_vec();
         let length = if operation == Deadlock { 2 * n } else { 4 * n };
-        Lent {
+        let mut lent = Lent {
             problem,
-            space: vec![u16::MAX; length],
-            moves,
+            lengths: Vec::new(),
+            space: vec![0; 4 * n],
+            moves: Vec::new(),
+        };
+        let [_, _, count, _] = lent.call(Plan(ffi::METHOD_US), Plain);
+        lent.moves = lent.space[..2 * count as usize].to_vec();
+        lent.space = vec![u16::MAX; length];
+        lent
+    }
+
+    /// The same with lengths.
+    fn measured(mut self) -> Self {
+        self.lengths = self.problem.lengths();
+        self
+    }
+
+    /// One side's answer, as four numbers at most.
+    fn call(&mut self, operation: Operation, side: Side) -> [u64; 4] {
+        match side {
+            Ours | OursWith => self.ours(operation, side == OursWith),
+            Plain | PlainWith => self.plain(operation, side == PlainWith),
         }
     }
 
-    /// Plain Rust's answer, as four numbers at most.
-    fn plain(&mut self, operation: Operation) -> [u64; 4] {
-        let Problem { initial, goal } = &self.problem;
+    /// Plain Rust's answer.
+    fn plain(&mut self, operation: Operation, with: bool) -> [u64; 4] {
+        let sheet = plain::Sheet {
+            initial: &self.problem.initial,
+            goal: &self.problem.goal,
+            lengths: with.then_some(self.lengths.as_slice()),
+        };
         match operation {
+            Check => {
+                let a = plain::check(sheet);
+                [a.refusal, a.place, 0, 0]
+            }
             Plan(method) => {
-                let a = plain::plan(method, initial, goal, &mut self.space);
+                let a = plain::plan(method, sheet, &mut self.space);
                 [a.refusal, a.place, a.count, a.misplaced]
             }
             Deadlock => {
-                let a = plain::deadlock(initial, goal, &mut self.space);
+                let a = plain::deadlock(sheet, &mut self.space);
                 [a.refusal, a.place, a.count, 0]
             }
             Replay => {
-                let a = plain::replay(initial, goal, &self.moves);
+                let a = plain::replay(sheet, &self.moves);
                 [a.refusal, a.verdict, a.place, 0]
             }
         }
     }
 
-    /// The library's answer, as four numbers at most.
-    fn ours(&mut self, operation: Operation) -> [u64; 4] {
+    /// The library's answer.
+    fn ours(&mut self, operation: Operation, with: bool) -> [u64; 4] {
         let Problem { initial, goal } = &self.problem;
         let (now, now_len) = (initial.as_ptr(), initial.len());
         let (goal, goal_len) = (goal.as_ptr(), goal.len());
+        let (long, long_len) = (self.lengths.as_ptr(), self.lengths.len());
         let (space, space_len) = (self.space.as_mut_ptr(), self.space.len());
         let (moves, moves_len) = (self.moves.as_ptr(), self.moves.len());
         // SAFETY: each pointer is a vector's own, with its length; nothing else uses the space.
         unsafe {
             match operation {
+                Check => {
+                    let a = if with {
+                        ffi::topjeska_check_with(
+                            ffi::LENGTHS,
+                            now,
+                            now_len,
+                            goal,
+                            goal_len,
+                            long,
+                            long_len,
+                        )
+                    } else {
+                        ffi::topjeska_check(now, now_len, goal, goal_len)
+                    };
+                    [a.refusal, a.place, 0, 0]
+                }
                 Plan(method) => {
-                    let a =
-                        ffi::topjeska_plan(method, now, now_len, goal, goal_len, space, space_len);
+                    let a = if with {
+                        ffi::topjeska_plan_with(
+                            ffi::LENGTHS,
+                            method,
+                            now,
+                            now_len,
+                            goal,
+                            goal_len,
+                            long,
+                            long_len,
+                            space,
+                            space_len,
+                        )
+                    } else {
+                        ffi::topjeska_plan(method, now, now_len, goal, goal_len, space, space_len)
+                    };
                     [a.refusal, a.place, a.count, a.misplaced]
                 }
                 Deadlock => {
-                    let a = ffi::topjeska_deadlock(now, now_len, goal, goal_len, space, space_len);
+                    let a = if with {
+                        ffi::topjeska_deadlock_with(
+                            ffi::LENGTHS,
+                            now,
+                            now_len,
+                            goal,
+                            goal_len,
+                            long,
+                            long_len,
+                            space,
+                            space_len,
+                        )
+                    } else {
+                        ffi::topjeska_deadlock(now, now_len, goal, goal_len, space, space_len)
+                    };
                     [a.refusal, a.place, a.count, 0]
                 }
                 Replay => {
-                    let a = ffi::topjeska_replay(now, now_len, goal, goal_len, moves, moves_len);
+                    let a = if with {
+                        ffi::topjeska_replay_with(
+                            ffi::LENGTHS,
+                            now,
+                            now_len,
+                            goal,
+                            goal_len,
+                            long,
+                            long_len,
+                            moves,
+                            moves_len,
+                        )
+                    } else {
+                        ffi::topjeska_replay(now, now_len, goal, goal_len, moves, moves_len)
+                    };
                     [a.refusal, a.verdict, a.place, 0]
                 }
             }
         }
     }
 
-    /// Whether both give the same answer, a problem's and no refusal, and leave the same space.
-    fn agree(&mut self, operation: Operation) -> bool {
-        self.space.fill(u16::MAX);
-        let ours = self.ours(operation);
-        let written = self.space.clone();
-        self.space.fill(u16::MAX);
-        let plain = self.plain(operation);
-        ours == plain && written == self.space && plain[0] == 0
+    /// Whether both sides give the same answer, a problem's and no refusal, and leave the same space.
+    fn agree(&mut self, operation: Operation, sides: Sides) -> bool {
+        let [one, other] = sides.map(|side| {
+            self.space.fill(u16::MAX);
+            (self.call(operation, side), self.space.clone())
+        });
+        one == other && one.0[0] == 0
     }
 
     /// The time of one call, of some made in a row.
-    fn time(&mut self, operation: Operation, ours: bool, calls: u32) -> Duration {
+    fn time(&mut self, operation: Operation, side: Side, calls: u32) -> Duration {
         let start = Instant::now();
         for _ in 0..calls {
-            black_box(if ours {
-                self.ours(operation)
-            } else {
-                self.plain(operation)
-            });
+            black_box(self.call(operation, side));
         }
         start.elapsed() / calls
     }
 }
 
-/// The medians of the library and of plain Rust for each size.
+/// Two sides that are measured beside each other.
+type Sides = [Side; 2];
+
+/// The medians of two sides for each size.
 type Medians = [[Duration; 2]; SIZES.len()];
 
 fn median(samples: &mut [Duration]) -> Duration {
@@ -147,12 +250,14 @@ fn median(samples: &mut [Duration]) -> Duration {
     samples[samples.len() / 2]
 }
 
-/// Measures all sizes in turn, the library and plain Rust side by side, whichever first.
-fn measure(lent: &mut [Lent], operation: Operation, patience: u32) -> Medians {
+/// Measures all sizes in turn, both sides beside each other, whichever first.
+fn measure(lent: &mut [Lent], operation: Operation, sides: Sides, patience: u32) -> Medians {
     let calls: Vec<u32> = lent
         .iter_mut()
         .map(|one| {
-            let once = one.time(operation, false, 3).max(Duration::from_nanos(100));
+            let once = one
+                .time(operation, sides[1], 3)
+                .max(Duration::from_nanos(100));
             (SAMPLE.as_nanos() / once.as_nanos()) as u32 + 1
         })
         .collect();
@@ -164,7 +269,7 @@ fn measure(lent: &mut [Lent], operation: Operation, patience: u32) -> Medians {
         }
         for ((one, taken), &calls) in lent.iter_mut().zip(&mut samples).zip(&calls) {
             for side in [round % 2, 1 - round % 2] {
-                taken[side].push(one.time(operation, side == 0, calls));
+                taken[side].push(one.time(operation, sides[side], calls));
             }
         }
     }
@@ -179,11 +284,11 @@ fn ratio(a: Duration, b: Duration) -> f64 {
     a.as_secs_f64() / b.as_secs_f64()
 }
 
-/// The table's head: what stands in its columns, for each size three.
-fn head() {
+/// What stands above the tables.
+fn preface() {
     println!(
-        "Time of a call in µs, medians: the library, plain Rust, and their ratio; growth is the \
-         library's from 2,000 to 4,000 slabs."
+        "Time of a call in µs, medians of two sides, and their ratio; growth is the first one's from \
+         2,000 to 4,000 slabs."
     );
     println!("Budget: ratio at most {RATIO} at 4,000 slabs, growth at most {GROWTH}.");
     for (name, _, why) in OPERATIONS {
@@ -191,66 +296,118 @@ fn head() {
             println!("No budget for the growth of {name}, {why}.");
         }
     }
-    print!("\n{:<15}{:<9}", "", "");
+}
+
+/// A table's head: what stands in its columns, for each size three.
+fn head(sides: [&str; 2]) {
+    print!("\n{:<15}{:<16}", "", "");
     for n in SIZES {
         print!("{:>24}", format!("{n} slabs, µs"));
     }
-    print!("\n{:<15}{:<9}", "family", "operation");
+    print!("\n{:<15}{:<16}", "family", "operation");
     for _ in SIZES {
-        print!("{:>9}{:>9}{:>6}", "library", "plain", "ratio");
+        print!("{:>9}{:>9}{:>6}", sides[0], sides[1], "ratio");
     }
     println!("{:>8}{:>12}", "growth", "allowed");
 }
 
-/// What a series misses of the budget; empty where it keeps it.
-fn missed(medians: &Medians, growth_bound: bool) -> String {
-    let [.., half, full] = medians;
-    let mut missed = String::new();
-    if ratio(full[0], full[1]) > RATIO {
-        missed += " RATIO";
-    }
-    if growth_bound && ratio(full[0], half[0]) > GROWTH {
-        missed += " GROWTH";
-    }
-    missed
+/// A row of a table: the operation by its name, who is measured, the most that their ratio may be, and whether the
+/// growth is bound.
+struct Row {
+    name: String,
+    operation: Operation,
+    sides: Sides,
+    ratio: f64,
+    growth_bound: bool,
 }
 
-/// A family's rows of the table; gives the count of differing answers and missed budgets.
-fn family((name, problem): Family) -> usize {
-    let mut faults = 0;
-    for (operation_name, operation, unbounded) in OPERATIONS {
-        let growth_bound = unbounded.is_none();
-        let mut lent = SIZES.map(|n| Lent::new(problem(n), operation));
+impl Row {
+    /// What a series misses of the budget; empty where it keeps it.
+    fn missed(&self, medians: &Medians) -> String {
+        let [.., half, full] = medians;
+        let mut missed = String::new();
+        if ratio(full[0], full[1]) > self.ratio {
+            missed += " RATIO";
+        }
+        if self.growth_bound && ratio(full[0], half[0]) > GROWTH {
+            missed += " GROWTH";
+        }
+        missed
+    }
+
+    /// Measures and prints the row; gives the count of differing answers and missed budgets.
+    fn print(&self, (family, problem): Family) -> usize {
+        let (name, operation, sides) = (&self.name, self.operation, self.sides);
+        let mut faults = 0;
+        let mut lent = SIZES.map(|n| {
+            let one = Lent::new(problem(n), operation);
+            if sides[0] == OursWith {
+                one.measured()
+            } else {
+                one
+            }
+        });
         for (one, n) in lent.iter_mut().zip(SIZES) {
-            if !one.agree(operation) {
-                println!("{name} {operation_name} {n}: the answers differ");
+            if !one.agree(operation, sides) {
+                println!("{family} {name} {n}: the answers differ");
                 faults += 1;
             }
         }
-        let mut medians = measure(&mut lent, operation, 1);
+        let mut medians = measure(&mut lent, operation, sides, 1);
         for patience in 2..=TRIES as u32 {
-            if !missed(&medians, growth_bound).is_empty() {
-                medians = measure(&mut lent, operation, patience);
+            if !self.missed(&medians).is_empty() {
+                medians = measure(&mut lent, operation, sides, patience);
             }
         }
-        let missed = missed(&medians, growth_bound);
+        let missed = self.missed(&medians);
         faults += usize::from(!missed.is_empty());
-        print!("{name:<15}{operation_name:<9}");
-        for [ours, plain] in medians {
+        print!("{family:<15}{name:<16}");
+        for [one, other] in medians {
             let micros = |time: Duration| time.as_secs_f64() * 1e6;
-            let (ours_micros, plain_micros) = (micros(ours), micros(plain));
-            let ratio = ratio(ours, plain);
-            print!("{ours_micros:>9.1}{plain_micros:>9.1}{ratio:>6.2}");
+            let (one_micros, other_micros) = (micros(one), micros(other));
+            let ratio = ratio(one, other);
+            print!("{one_micros:>9.1}{other_micros:>9.1}{ratio:>6.2}");
         }
         let [.., half, full] = medians;
-        let allowed = if growth_bound {
+        let allowed = if self.growth_bound {
             format!("{GROWTH}")
         } else {
             "no budget".into()
         };
         println!("{:>8.2}{allowed:>12}{missed}", ratio(full[0], half[0]));
+        faults
     }
-    faults
+}
+
+/// A family's rows without lengths; gives the count of faults.
+fn without_lengths(family: Family) -> usize {
+    let rows = OPERATIONS.map(|(name, operation, unbounded)| Row {
+        name: name.into(),
+        operation,
+        sides: [Ours, Plain],
+        ratio: RATIO,
+        growth_bound: unbounded.is_none(),
+    });
+    rows.iter().map(|row| row.print(family)).sum()
+}
+
+/// A family's rows with lengths, beside the library without them and beside plain Rust with them; gives the count of
+/// faults.
+fn with_lengths(family: Family) -> usize {
+    let rows = LENGTH_OPERATIONS
+        .iter()
+        .flat_map(|&(name, operation, more)| {
+            [("without", Ours, more), ("plain", PlainWith, RATIO)].map(|(beside, other, ratio)| {
+                Row {
+                    name: format!("{name}, {beside}"),
+                    operation,
+                    sides: [OursWith, other],
+                    ratio,
+                    growth_bound: true,
+                }
+            })
+        });
+    rows.map(|row| row.print(family)).sum()
 }
 
 fn main() -> ExitCode {
@@ -262,9 +419,28 @@ fn main() -> ExitCode {
         eprintln!("{word} is no family");
         return ExitCode::FAILURE;
     }
-    head();
+    preface();
     let chosen = |(name, _): &Family| wished.is_empty() || wished.iter().any(|w| w == name);
-    let faults: usize = FAMILIES.into_iter().filter(chosen).map(family).sum();
+    head(["library", "plain"]);
+    let mut faults: usize = FAMILIES
+        .into_iter()
+        .filter(chosen)
+        .map(without_lengths)
+        .sum();
+    let measured = |family: &Family| chosen(family) && WITH_LENGTHS.contains(&family.0);
+    let families: Vec<Family> = FAMILIES.into_iter().filter(measured).collect();
+    if !families.is_empty() {
+        println!(
+            "\nWith lengths, beside the library without them and beside plain Rust with them."
+        );
+        for (name, _, more) in LENGTH_OPERATIONS {
+            println!(
+                "Budget: {name} with lengths at most {more} of the time without, at 4,000 slabs."
+            );
+        }
+        head(["with", "other"]);
+        faults += families.into_iter().map(with_lengths).sum::<usize>();
+    }
     if faults == 0 {
         println!("The budget is kept.");
         ExitCode::SUCCESS

@@ -2,7 +2,10 @@
 
 #![allow(unsafe_code)]
 
-use crate::{CheckAnswer, DeadlockAnswer, PlanAnswer, ReplayAnswer};
+use crate::{CheckAnswer, DeadlockAnswer, PlanAnswer, ReplayAnswer, Sheet};
+
+/// The bit of options that says that a sheet has lengths.
+const LENGTHS: u16 = 1;
 
 /// # Safety
 /// The pointer is to `len` numbers that nothing writes meanwhile, or `len` is 0.
@@ -25,6 +28,38 @@ unsafe fn space<'a>(numbers: *mut u16, len: usize) -> &'a mut [u16] {
 }
 
 /// # Safety
+/// Each pointer is to as many numbers as the length after it says, the lengths where the options have them.
+unsafe fn sheet<'a>(
+    options: u16,
+    now: *const u16,
+    now_len: usize,
+    goal: *const u16,
+    goal_len: usize,
+    lengths: *const u16,
+    lengths_len: usize,
+) -> Sheet<'a> {
+    let has_lengths = options & LENGTHS != 0;
+    Sheet {
+        initial: list(now, now_len),
+        goal: list(goal, goal_len),
+        lengths: has_lengths.then(|| list(lengths, lengths_len)),
+    }
+}
+
+/// A sheet without lengths.
+///
+/// # Safety
+/// Each pointer is to as many numbers as the length after it says.
+unsafe fn bare<'a>(
+    now: *const u16,
+    now_len: usize,
+    goal: *const u16,
+    goal_len: usize,
+) -> Sheet<'a> {
+    sheet(0, now, now_len, goal, goal_len, std::ptr::null(), 0)
+}
+
+/// # Safety
 /// Each pointer is to as many numbers as the length after it says.
 #[no_mangle]
 pub unsafe extern "C" fn plain_check(
@@ -33,7 +68,30 @@ pub unsafe extern "C" fn plain_check(
     goal: *const u16,
     goal_len: usize,
 ) -> CheckAnswer {
-    crate::check(list(now, now_len), list(goal, goal_len))
+    crate::check(bare(now, now_len, goal, goal_len))
+}
+
+/// # Safety
+/// Each pointer is to as many numbers as the length after it says.
+#[no_mangle]
+pub unsafe extern "C" fn plain_check_with(
+    options: u16,
+    now: *const u16,
+    now_len: usize,
+    goal: *const u16,
+    goal_len: usize,
+    lengths: *const u16,
+    lengths_len: usize,
+) -> CheckAnswer {
+    crate::check(sheet(
+        options,
+        now,
+        now_len,
+        goal,
+        goal_len,
+        lengths,
+        lengths_len,
+    ))
 }
 
 /// # Safety
@@ -48,8 +106,27 @@ pub unsafe extern "C" fn plain_plan(
     out: *mut u16,
     out_len: usize,
 ) -> PlanAnswer {
-    let (now, goal) = (list(now, now_len), list(goal, goal_len));
-    crate::plan(method, now, goal, space(out, out_len))
+    let sheet = bare(now, now_len, goal, goal_len);
+    crate::plan(method, sheet, space(out, out_len))
+}
+
+/// # Safety
+/// Each pointer is to as many numbers as the length after it says, and nothing else uses the space.
+#[no_mangle]
+pub unsafe extern "C" fn plain_plan_with(
+    options: u16,
+    method: u16,
+    now: *const u16,
+    now_len: usize,
+    goal: *const u16,
+    goal_len: usize,
+    lengths: *const u16,
+    lengths_len: usize,
+    out: *mut u16,
+    out_len: usize,
+) -> PlanAnswer {
+    let sheet = sheet(options, now, now_len, goal, goal_len, lengths, lengths_len);
+    crate::plan(method, sheet, space(out, out_len))
 }
 
 /// # Safety
@@ -63,8 +140,26 @@ pub unsafe extern "C" fn plain_deadlock(
     out: *mut u16,
     out_len: usize,
 ) -> DeadlockAnswer {
-    let (now, goal) = (list(now, now_len), list(goal, goal_len));
-    crate::deadlock(now, goal, space(out, out_len))
+    let sheet = bare(now, now_len, goal, goal_len);
+    crate::deadlock(sheet, space(out, out_len))
+}
+
+/// # Safety
+/// Each pointer is to as many numbers as the length after it says, and nothing else uses the space.
+#[no_mangle]
+pub unsafe extern "C" fn plain_deadlock_with(
+    options: u16,
+    now: *const u16,
+    now_len: usize,
+    goal: *const u16,
+    goal_len: usize,
+    lengths: *const u16,
+    lengths_len: usize,
+    out: *mut u16,
+    out_len: usize,
+) -> DeadlockAnswer {
+    let sheet = sheet(options, now, now_len, goal, goal_len, lengths, lengths_len);
+    crate::deadlock(sheet, space(out, out_len))
 }
 
 /// # Safety
@@ -78,6 +173,24 @@ pub unsafe extern "C" fn plain_replay(
     moves: *const u16,
     moves_len: usize,
 ) -> ReplayAnswer {
-    let (now, goal) = (list(now, now_len), list(goal, goal_len));
-    crate::replay(now, goal, list(moves, moves_len))
+    let sheet = bare(now, now_len, goal, goal_len);
+    crate::replay(sheet, list(moves, moves_len))
+}
+
+/// # Safety
+/// Each pointer is to as many numbers as the length after it says.
+#[no_mangle]
+pub unsafe extern "C" fn plain_replay_with(
+    options: u16,
+    now: *const u16,
+    now_len: usize,
+    goal: *const u16,
+    goal_len: usize,
+    lengths: *const u16,
+    lengths_len: usize,
+    moves: *const u16,
+    moves_len: usize,
+) -> ReplayAnswer {
+    let sheet = sheet(options, now, now_len, goal, goal_len, lengths, lengths_len);
+    crate::replay(sheet, list(moves, moves_len))
 }

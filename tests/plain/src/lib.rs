@@ -1,5 +1,5 @@
-//! Document 01 in plain Rust, written for speed and from the document alone: the library is measured
-//! against it and compared with it.
+//! Document 01 in plain Rust, with the lengths of document 02, written for speed and from the documents
+//! alone: the library is measured against it and compared with it.
 //!
 //! Blocks are numbered from 1 and 0 is the table. Every list inside has an entry 0 for the table.
 
@@ -14,7 +14,15 @@ mod validator;
 
 use problem::{Problem, Refusal};
 
-/// Questions 2 to 9.
+/// Two states, and the lengths of their blocks or none.
+#[derive(Clone, Copy)]
+pub struct Sheet<'a> {
+    pub initial: &'a [u16],
+    pub goal: &'a [u16],
+    pub lengths: Option<&'a [u16]>,
+}
+
+/// Questions 2 to 9, and 16 to 18 with lengths.
 #[repr(C)]
 #[derive(Clone, Copy, Debug, Default, PartialEq, Eq)]
 pub struct CheckAnswer {
@@ -53,9 +61,9 @@ pub struct ReplayAnswer {
     pub place: u64,
 }
 
-/// Puts questions 2 to 9 to two lists.
-pub fn check(initial: &[u16], goal: &[u16]) -> CheckAnswer {
-    match Problem::read(initial, goal) {
+/// Puts questions 2 to 9 to a sheet, and 16 to 18 where it has lengths.
+pub fn check(sheet: Sheet) -> CheckAnswer {
+    match Problem::read(sheet) {
         Ok(_) => CheckAnswer::default(),
         Err(Refusal { number, place }) => CheckAnswer {
             refusal: number,
@@ -65,8 +73,8 @@ pub fn check(initial: &[u16], goal: &[u16]) -> CheckAnswer {
 }
 
 /// Writes the plan of a method to the front of `out`.
-pub fn plan(method: u16, initial: &[u16], goal: &[u16], out: &mut [u16]) -> PlanAnswer {
-    match planner::plan(method, initial, goal, out) {
+pub fn plan(method: u16, sheet: Sheet, out: &mut [u16]) -> PlanAnswer {
+    match planner::plan(method, sheet, out) {
         Ok((count, misplaced)) => PlanAnswer {
             count,
             misplaced,
@@ -81,8 +89,8 @@ pub fn plan(method: u16, initial: &[u16], goal: &[u16], out: &mut [u16]) -> Plan
 }
 
 /// Writes the blocks of a deadlock, each with the block in its way, to the front of `out`.
-pub fn deadlock(initial: &[u16], goal: &[u16], out: &mut [u16]) -> DeadlockAnswer {
-    match planner::deadlock(initial, goal, out) {
+pub fn deadlock(sheet: Sheet, out: &mut [u16]) -> DeadlockAnswer {
+    match planner::deadlock(sheet, out) {
         Ok(count) => DeadlockAnswer {
             count,
             ..DeadlockAnswer::default()
@@ -96,8 +104,8 @@ pub fn deadlock(initial: &[u16], goal: &[u16], out: &mut [u16]) -> DeadlockAnswe
 }
 
 /// Follows a list of moves and says whether each is legal and the end is the goal.
-pub fn replay(initial: &[u16], goal: &[u16], moves: &[u16]) -> ReplayAnswer {
-    match validator::replay(initial, goal, moves) {
+pub fn replay(sheet: Sheet, moves: &[u16]) -> ReplayAnswer {
+    match validator::replay(sheet, moves) {
         Ok((verdict, place)) => ReplayAnswer {
             refusal: 0,
             verdict,

@@ -8,6 +8,7 @@
 use crate::blockset::BlockSet;
 use crate::problem::{refused, Problem, Refusal};
 use crate::towers::Towers;
+use crate::Sheet;
 
 /// A state under way to its goal.
 pub struct Yard {
@@ -120,19 +121,14 @@ impl Plan<'_> {
 }
 
 /// The count of moves of a method's plan, and the count of blocks that are misplaced at the start.
-pub fn plan(
-    method: u16,
-    initial: &[u16],
-    goal: &[u16],
-    out: &mut [u16],
-) -> Result<(u64, u64), Refusal> {
+pub fn plan(method: u16, sheet: Sheet, out: &mut [u16]) -> Result<(u64, u64), Refusal> {
     let solve = match method {
         1 => us,
         2 => gn1,
         3 => gn2,
         _ => return Err(refused(1)),
     };
-    let problem = Problem::read(initial, goal)?;
+    let problem = Problem::read(sheet)?;
     if out.len() < 4 * problem.n {
         return Err(refused(10));
     }
@@ -231,8 +227,8 @@ fn gn2(mut yard: Yard, plan: &mut Plan) {
 }
 
 /// The count of blocks on the loop where the constructive moves stall, written with what is in their way.
-pub fn deadlock(initial: &[u16], goal: &[u16], out: &mut [u16]) -> Result<u64, Refusal> {
-    let problem = Problem::read(initial, goal)?;
+pub fn deadlock(sheet: Sheet, out: &mut [u16]) -> Result<u64, Refusal> {
+    let problem = Problem::read(sheet)?;
     if out.len() < 2 * problem.n {
         return Err(refused(10));
     }

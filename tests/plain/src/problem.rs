@@ -1,4 +1,6 @@
-//! Questions 2 to 9, and what is known of an accepted problem at the start.
+//! Questions 2 to 9, 16 to 18 with lengths, and what is known of an accepted problem at the start.
+
+use crate::Sheet;
 
 /// The most blocks of a problem.
 const MOST: usize = 4000;
@@ -25,8 +27,13 @@ pub struct Problem {
 }
 
 impl Problem {
-    /// Puts questions 2 to 9.
-    pub fn read(initial: &[u16], goal: &[u16]) -> Result<Self, Refusal> {
+    /// Puts questions 2 to 9, and 16 to 18 with lengths.
+    pub fn read(sheet: Sheet) -> Result<Self, Refusal> {
+        let Sheet {
+            initial,
+            goal,
+            lengths,
+        } = sheet;
         let n = initial.len();
         if n > MOST {
             return Err(refused(2));
@@ -36,6 +43,13 @@ impl Problem {
         }
         let load = loads(initial, 4)?;
         let goal_load = loads(goal, 7)?;
+        if let Some(lengths) = lengths {
+            if lengths.len() != n {
+                return Err(refused(16));
+            }
+            fits(initial, lengths, 17)?;
+            fits(goal, lengths, 18)?;
+        }
         Ok(Problem {
             n,
             support: with_table(initial),
@@ -107,6 +121,21 @@ fn loads(state: &[u16], question: u64) -> Result<Vec<u16>, Refusal> {
         return Err(at_entry(question + 2, afloat(state, &load)));
     }
     Ok(load)
+}
+
+/// Whether a block may not rest on another, or on the table, by their lengths.
+#[inline]
+pub fn overhangs(lengths: &[u16], block: usize, support: usize) -> bool {
+    support != 0 && lengths[block - 1] > lengths[support - 1]
+}
+
+/// The question of overhangs in a state.
+fn fits(state: &[u16], lengths: &[u16], question: u64) -> Result<(), Refusal> {
+    let mut supports = state.iter().zip(1..);
+    match supports.position(|(&support, block)| overhangs(lengths, block, support.into())) {
+        None => Ok(()),
+        entry => Err(at_entry(question, entry)),
+    }
 }
 
 /// The first entry whose block does not come down to the table.

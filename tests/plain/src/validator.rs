@@ -1,16 +1,17 @@
 //! Replay of a list of moves.
 
-use crate::problem::{refused, Problem, Refusal};
+use crate::problem::{overhangs, refused, Problem, Refusal};
+use crate::Sheet;
 
 /// The verdict and its place.
-pub fn replay(initial: &[u16], goal: &[u16], moves: &[u16]) -> Result<(u64, u64), Refusal> {
+pub fn replay(sheet: Sheet, moves: &[u16]) -> Result<(u64, u64), Refusal> {
     let Problem {
         n,
         mut support,
         mut load,
         goal,
         ..
-    } = Problem::read(initial, goal)?;
+    } = Problem::read(sheet)?;
     let pairs = moves.chunks_exact(2);
     if !pairs.remainder().is_empty() {
         return Err(refused(11));
@@ -25,6 +26,8 @@ pub fn replay(initial: &[u16], goal: &[u16], moves: &[u16]) -> Result<(u64, u64)
             3
         } else if to == block || load[to] != 0 {
             4
+        } else if sheet.lengths.is_some_and(|l| overhangs(l, block, to)) {
+            6
         } else {
             load[usize::from(support[block])] = 0;
             support[block] = pair[1];

@@ -1,6 +1,7 @@
 -- `ask` meets its contract: one law for each way out. Assumes nothing.
 use borrow.Author.Needs.{needs}
-use Rattle.responder.proofs.AskLaws.{headless-way, long-way, broken-way, tail-way, plan-way, twice-fits, sum-fits, place-fits, part}
+use Rattle.responder.proofs.AskLaws.{headless-way, long-way, broken-way, tail-way, plan-way}
+use Rattle.responder.proofs.AskLaws.{twice-fits, both-fits, sum-fits, place-fits, part, length-part}
 use Rattle.responder.proofs.ask.Statement.{statement}
 use Rattle.responder.proofs.ask.Tie as tie
 
@@ -22,11 +23,17 @@ refused-requires-2 c κs = search needs
 enum-known-sheet-3 : tie.Need-enum-known-sheet-3
 enum-known-sheet-3 c = search needs
 
+length-count-requires : tie.Need-length-count-requires
+length-count-requires c κs = search needs
+
 mul-refused : tie.Need-mul-refused
 mul-refused c = search (needs, twice-fits)
 
 add-refused : tie.Need-add-refused
-add-refused c = search (needs, sum-fits)
+add-refused c = search (needs, both-fits)
+
+add-refused-2 : tie.Need-add-refused-2
+add-refused-2 c = search (needs, sum-fits)
 
 cast-refused : tie.Need-cast-refused
 cast-refused c = search (needs, place-fits)
@@ -34,14 +41,17 @@ cast-refused c = search (needs, place-fits)
 refused-requires-3 : tie.Need-refused-requires-3
 refused-requires-3 c κs = search needs
 
-slice-aggregate-plan : tie.Need-slice-aggregate-plan
-slice-aggregate-plan c = search (needs, part)
+slice-aggregate-plan-with : tie.Need-slice-aggregate-plan-with
+slice-aggregate-plan-with c = search (needs, part)
 
-slice-aggregate-plan-2 : tie.Need-slice-aggregate-plan-2
-slice-aggregate-plan-2 c = search (needs, part)
+slice-aggregate-plan-with-2 : tie.Need-slice-aggregate-plan-with-2
+slice-aggregate-plan-with-2 c = search (needs, part)
 
-plan-requires : tie.Need-plan-requires
-plan-requires c κs = search needs
+slice-aggregate-plan-with-3 : tie.Need-slice-aggregate-plan-with-3
+slice-aggregate-plan-with-3 c = search (needs, length-part)
+
+plan-with-requires : tie.Need-plan-with-requires
+plan-with-requires c κs = search needs
 
 returns : tie.Need-returns
 returns c = search (needs, headless-way)
@@ -71,13 +81,16 @@ ask-spec =
     enum-known-sheet-2
     refused-requires-2
     enum-known-sheet-3
+    length-count-requires
     mul-refused
     add-refused
+    add-refused-2
     cast-refused
     refused-requires-3
-    slice-aggregate-plan
-    slice-aggregate-plan-2
-    plan-requires
+    slice-aggregate-plan-with
+    slice-aggregate-plan-with-2
+    slice-aggregate-plan-with-3
+    plan-with-requires
     returns
     returns-2
     returns-3

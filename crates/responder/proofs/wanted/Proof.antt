@@ -4,8 +4,8 @@ use Rattle.responder.proofs.WantedLaws.{headless-way, unknown-way, want
 use Rattle.responder.proofs.wanted.Statement.{statement}
 use Rattle.responder.proofs.wanted.Tie as tie
 
-read-record-requires : tie.Need-read-record-requires
-read-record-requires c κs = search needs
+read-head-requires : tie.Need-read-head-requires
+read-head-requires c κs = search needs
 
 enum-known-head : tie.Need-enum-known-head
 enum-known-head c = search needs
@@ -34,20 +34,26 @@ returns-2 c = search (needs, unknown-way)
 decided-by-requires : tie.Need-decided-by-requires
 decided-by-requires c κs = search needs
 
-mul-up-to : tie.Need-mul-up-to
-mul-up-to c = search needs
-
 wide-requires : tie.Need-wide-requires
 wide-requires c κs = search needs
 
-mul-up-to-2 : tie.Need-mul-up-to-2
-mul-up-to-2 c = search needs
+length-count-requires : tie.Need-length-count-requires
+length-count-requires c κs = search needs
+
+mul-up-to : tie.Need-mul-up-to
+mul-up-to c = search needs
 
 add-up-to : tie.Need-add-up-to
 add-up-to c = search needs
 
+mul-up-to-2 : tie.Need-mul-up-to-2
+mul-up-to-2 c = search needs
+
 add-up-to-2 : tie.Need-add-up-to-2
 add-up-to-2 c = search needs
+
+add-up-to-3 : tie.Need-add-up-to-3
+add-up-to-3 c = search needs
 
 up-to-requires-2 : tie.Need-up-to-requires-2
 up-to-requires-2 c κs = search needs
@@ -62,7 +68,7 @@ pub wanted-spec : {M : Type 1} → statement M
 wanted-spec =
     tie.close
     (tie.spec
-    read-record-requires
+    read-head-requires
     enum-known-head
     enum-told
     up-to-requires
@@ -72,11 +78,13 @@ wanted-spec =
     enum-told-3
     returns-2
     decided-by-requires
-    mul-up-to
     wide-requires
-    mul-up-to-2
+    length-count-requires
+    mul-up-to
     add-up-to
+    mul-up-to-2
     add-up-to-2
+    add-up-to-3
     up-to-requires-2
     returns-3
     returns-4)

@@ -1,7 +1,6 @@
 -- `read_body` meets its contract: one law for each way out. Assumes nothing.
 use borrow.Author.Needs.{needs}
-use native.Mathlib.Omega.{arith}
-use Rattle.sheets.proofs.ReadLaws.{now-missing-way, goal-missing-way, whole-way}
+use Rattle.sheets.proofs.ReadLaws.{now-missing-way, goal-missing-way, length-missing-way, whole-way, length-place-fits, lengths-small}
 use Rattle.sheets.proofs.read_body.Statement.{statement}
 use Rattle.sheets.proofs.read_body.Tie as tie
 
@@ -11,20 +10,17 @@ nows-at-requires c κs = search needs
 read-entries-requires : tie.Need-read-entries-requires
 read-entries-requires c κs = search needs
 
-add-t14 : tie.Need-add-t14
-add-t14 c = search needs
+add-t18 : tie.Need-add-t18
+add-t18 c = search needs
 
-cast-t15 : tie.Need-cast-t15
-cast-t15 c = search needs
+cast-t19 : tie.Need-cast-t19
+cast-t19 c = search needs
 
 same-length : tie.Need-same-length
 same-length c = search needs
 
 returns : tie.Need-returns
-returns c =
-    let d = c .before .before .before in
-    let b = d .before .before in
-    now-missing-way _ (b .before .before .before .before .pre) (b .nows-at .ensures) (d .read-entries .ensures) (omega arith)
+returns c = search (needs, now-missing-way)
 
 goals-at-requires : tie.Need-goals-at-requires
 goals-at-requires c κs = search needs
@@ -32,14 +28,14 @@ goals-at-requires c κs = search needs
 read-entries-requires-2 : tie.Need-read-entries-requires-2
 read-entries-requires-2 c κs = search needs
 
-add-t18 : tie.Need-add-t18
-add-t18 c = search needs
+add-t22 : tie.Need-add-t22
+add-t22 c = search needs
 
-add-t19 : tie.Need-add-t19
-add-t19 c = search needs
+add-t23 : tie.Need-add-t23
+add-t23 c = search needs
 
-cast-t20 : tie.Need-cast-t20
-cast-t20 c = search needs
+cast-t24 : tie.Need-cast-t24
+cast-t24 c = search needs
 
 same-length-2 : tie.Need-same-length-2
 same-length-2 c = search needs
@@ -48,16 +44,25 @@ same-length-3 : tie.Need-same-length-3
 same-length-3 c = search needs
 
 returns-2 : tie.Need-returns-2
-returns-2 c =
-    let g = c .before .before .before in
-    let e = g .before .before .before in
-    let d = e .before .before .before in
-    let b = d .before .before in
-    goal-missing-way _ (b .before .before .before .before .pre) (b .nows-at .ensures) (d .read-entries .ensures) (e .if1 .left)
-    (g .before .before .goals-at .ensures) (g .read-entries2 .ensures) (omega arith)
+returns-2 c = search (needs, goal-missing-way)
 
-end-at-requires : tie.Need-end-at-requires
-end-at-requires c κs = search needs
+lengths-at-requires : tie.Need-lengths-at-requires
+lengths-at-requires c κs = search needs
+
+read-entries-requires-3 : tie.Need-read-entries-requires-3
+read-entries-requires-3 c κs = search needs
+
+add-t27 : tie.Need-add-t27
+add-t27 c = search needs
+
+add-t28 : tie.Need-add-t28
+add-t28 c = search needs
+
+add-t29 : tie.Need-add-t29
+add-t29 c = search needs
+
+cast-t30 : tie.Need-cast-t30
+cast-t30 c = search (needs, length-place-fits)
 
 same-length-4 : tie.Need-same-length-4
 same-length-4 c = search needs
@@ -65,14 +70,26 @@ same-length-4 c = search needs
 same-length-5 : tie.Need-same-length-5
 same-length-5 c = search needs
 
+same-length-6 : tie.Need-same-length-6
+same-length-6 c = search needs
+
 returns-3 : tie.Need-returns-3
-returns-3 c =
-    let g = c .before .before .before .before in
-    let e = g .before .before .before in
-    let d = e .before .before .before in
-    let b = d .before .before in
-    whole-way _ (b .before .before .before .before .pre) (b .nows-at .ensures) (d .read-entries .ensures) (e .if1 .left)
-    (g .before .before .goals-at .ensures) (g .read-entries2 .ensures) (c .before .if2 .left) (c .end-at .ensures)
+returns-3 c = search (needs, length-missing-way)
+
+end-at-requires : tie.Need-end-at-requires
+end-at-requires c κs = search (needs, lengths-small)
+
+same-length-7 : tie.Need-same-length-7
+same-length-7 c = search needs
+
+same-length-8 : tie.Need-same-length-8
+same-length-8 c = search needs
+
+same-length-9 : tie.Need-same-length-9
+same-length-9 c = search needs
+
+returns-4 : tie.Need-returns-4
+returns-4 c = search (needs, whole-way)
 
 pub read-body-spec : {M : Type 1} → statement M
 read-body-spec =
@@ -80,19 +97,30 @@ read-body-spec =
     (tie.spec
     nows-at-requires
     read-entries-requires
-    add-t14
-    cast-t15
+    add-t18
+    cast-t19
     same-length
     returns
     goals-at-requires
     read-entries-requires-2
-    add-t18
-    add-t19
-    cast-t20
+    add-t22
+    add-t23
+    cast-t24
     same-length-2
     same-length-3
     returns-2
-    end-at-requires
+    lengths-at-requires
+    read-entries-requires-3
+    add-t27
+    add-t28
+    add-t29
+    cast-t30
     same-length-4
     same-length-5
-    returns-3)
+    same-length-6
+    returns-3
+    end-at-requires
+    same-length-7
+    same-length-8
+    same-length-9
+    returns-4)

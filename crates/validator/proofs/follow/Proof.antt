@@ -3,16 +3,17 @@ use borrow.Author.Needs.{needs}
 use Prim.Native.Nat.{_-_}
 use mathlib.Core.Path.{_≡_}
 use lib.ListN.{length}
+use Rattle.blocks.specs.Length.{given}
 use Rattle.validator.proofs.FollowLaws.{Following, begin, pair-within, first-within, bad-way, movable, next, differs-way, arrives-way}
 use Rattle.validator.proofs.follow.Statement.{statement}
 use Rattle.validator.proofs.follow.Tie as tie
 
 abbrev Inv-loop : tie.InvT-loop
-Inv-loop cur₀ goal moves loads₀ count k₀ cur loads k =
-    Following cur₀ goal moves count k cur loads × (length cur ≡ length cur₀) × (length loads ≡ length loads₀)
+Inv-loop cur₀ goal measured lengths moves loads₀ count k₀ cur loads k =
+    Following (given measured lengths) cur₀ goal moves count k cur loads × (length cur ≡ length cur₀) × (length loads ≡ length loads₀)
 
 abbrev μ-loop : tie.MeasureT-loop
-μ-loop cur₀ goal moves loads₀ count k₀ cur loads k = count - k
+μ-loop cur₀ goal measured lengths moves loads₀ count k₀ cur loads k = count - k
 
 loop-holds : tie.Need-loop-holds Inv-loop μ-loop
 loop-holds c = search (needs, begin)
@@ -44,11 +45,11 @@ shared-slice-read-wide-2 c = search (needs, pair-within)
 wide-requires-2 : tie.Need-wide-requires-2 Inv-loop μ-loop
 wide-requires-2 c κs = search needs
 
-fault-requires : tie.Need-fault-requires Inv-loop μ-loop
-fault-requires c κs = search needs
+lift-fault-requires : tie.Need-lift-fault-requires Inv-loop μ-loop
+lift-fault-requires c κs = search needs
 
-add-t23 : tie.Need-add-t23 Inv-loop μ-loop
-add-t23 c = search needs
+add-t25 : tie.Need-add-t25 Inv-loop μ-loop
+add-t25 c = search needs
 
 same-length : tie.Need-same-length Inv-loop μ-loop
 same-length c = search needs
@@ -79,8 +80,9 @@ loop-again c =
     let f = e .before in
     let y = f .before .before .before in
     let x = y .before .before in
-    let i = x .before .before in (
-      next (i .before .loop .inv .0) (i .loop-test .taken) (x .wide .ensures) (y .wide2 .ensures) (f .fault .ensures) (e .if1 .left) (m .make-move .ensures),
+    let i = x .before .before in
+    let w = i .before .loop .inv .0 in (
+      next w (i .loop-test .taken) (x .wide .ensures) (y .wide2 .ensures) (f .lift-fault .ensures) (e .if1 .left) (m .make-move .ensures),
       search needs,
       search needs,
     )
@@ -122,8 +124,8 @@ follow-spec =
     mul-wide-4
     shared-slice-read-wide-2
     wide-requires-2
-    fault-requires
-    add-t23
+    lift-fault-requires
+    add-t25
     same-length
     same-length-2
     returns

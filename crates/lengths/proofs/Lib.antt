@@ -1,0 +1,2 @@
+pub mod MeasureLaws
+pub mod ExamineLaws

@@ -1,0 +1,21 @@
+-- `topjeska_replay_with` meets its contract: the answer of the library, in numbers. Assumes nothing.
+use borrow.Author.Needs.{needs}
+use Rattle.topjeska.proofs.ExportLaws.{replay-exported}
+use Rattle.topjeska.proofs.topjeska_replay_with.Statement.{statement}
+use Rattle.topjeska.proofs.topjeska_replay_with.Tie as tie
+
+has-option-requires : tie.Need-has-option-requires
+has-option-requires c κs = search needs
+
+validate-with-requires : tie.Need-validate-with-requires
+validate-with-requires c κs = search needs
+
+replay-numbers-requires : tie.Need-replay-numbers-requires
+replay-numbers-requires c κs = search needs
+
+returns : tie.Need-returns
+returns c = search (needs, replay-exported)
+
+pub topjeska-replay-with-spec : {M : Type 1} → statement M
+topjeska-replay-with-spec =
+    tie.close (tie.spec has-option-requires validate-with-requires replay-numbers-requires returns)
