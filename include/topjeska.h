@@ -212,7 +212,9 @@ topjeska_check_answer topjeska_check(const uint16_t *now, size_t now_len,
 
 /* Writes the lifts of a method, one of TOPJESKA_METHOD_..., to the front of the space, as pairs:
  * slab, destination. The space needs TOPJESKA_PLAN_SPACE numbers; what lies behind the pairs keeps
- * what it held. */
+ * what it held. US writes as many lifts as slabs are misplaced, and one more for each of these that
+ * is off the ground both now and in the goal; for the same sheet GN1 and GN2 write no more than US
+ * (theorem `beside-us`). */
 topjeska_plan_answer topjeska_plan(uint16_t method, const uint16_t *now, size_t now_len,
                                    const uint16_t *goal, size_t goal_len,
                                    uint16_t *space, size_t space_len);

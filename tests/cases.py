@@ -96,13 +96,15 @@ def misread() -> list[str]:
 
 
 def broken(now: Yard, goal: Yard) -> list[str]:
-    """Where the reading breaks demands 2 and 3 on a small accepted sheet, by search; empty when it keeps them."""
-    sheet, wrong = promises.searched(now, goal), []
+    """Where the reading breaks demands 2 and 3 or document 02, Job 4, on a small accepted sheet; empty when nowhere."""
+    sheet, wrong, lifts = promises.searched(now, goal), [], {}
     for case in by_all(now, goal):
         numbers, pairs = read(case)
+        lifts |= {case.method: len(pairs)} if case.operation == "plan" else {}
         if numbers[0] != 0 or numbers[2] != len(pairs):
             wrong.append(f"{case.operation} is refused, or counts other pairs")
         wrong += promises.unkept(sheet, case, numbers, pairs)
+    wrong += promises.unkept_beside_us(reading.all_down(now, goal, reading.misplaced(now, goal)), lifts)
     return [f"{now} / {goal}: {sentence}" for sentence in wrong]
 
 

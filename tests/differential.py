@@ -3,9 +3,10 @@
 Up to 8 slabs the expected outcome is the reading's (reading.py), and the promises of demand 3 are
 held to its breadth-first search. Above, it is that of the plain Rust program (plain/), which is held
 to the reading on every small case too. With lengths the same; equal lengths, and lengths that the
-options do not name, must also be answered as none. A failing case is printed as a line, also where the library
-crashes or does not return; run lines again with `python3 tests/differential.py --cases FILE` (`-`:
-standard input).
+options do not name, must also be answered as none. On every accepted sheet the lifts of the three
+methods are held to each other and to the number that document 02, Job 4, names. A failing case is
+printed as a line, also where the library crashes or does not return; run lines again with
+`python3 tests/differential.py --cases FILE` (`-`: standard input).
 """
 
 import argparse
@@ -43,7 +44,8 @@ from case import (
     testing,
 )
 from library import FIELDS, Fault, Library, Outcome, shared_object
-from reading import LENGTHS, METHODS, MOST, NO_VERDICT, TOP, Yard, check, deadlock_space, plan_space
+from reading import LENGTHS, METHODS, MOST, NO_VERDICT, TOP, Lengths, Yard
+from reading import all_down, check, deadlock_space, misplaced, plan_space
 from sheets import Sheet, Walk
 
 ROOT = Path(__file__).resolve().parent.parent
@@ -68,6 +70,11 @@ def told(outcome: Outcome) -> str:
     return f"{listed(outcome.numbers)} | {listed(outcome.space[:200])}"
 
 
+def of_sheet(case: Case) -> tuple[Yard, Yard, Lengths]:
+    """The sheet of a case."""
+    return case.now, case.goal, case.looked_at()
+
+
 class Reached(Exception):
     """The case that was looked for."""
 
@@ -82,6 +89,8 @@ class Trial:
         self.failures: list[str] = []
         self.index = 0
         self.progress = mmap.mmap(-1, 8)
+        self.sheet: Case | None = None
+        self.lifts: dict[int, int] = {}
 
     def count(self, good: bool, case: Case, why: Callable[[], str]) -> None:
         """Counts a case; keeps the line of a failing one, and prints the first few."""
@@ -121,7 +130,36 @@ class Trial:
             return "; ".join(f"{name} {o if isinstance(o, str) else told(o)}" for name, o in named)
 
         self.count(good, case, why)
+        if isinstance(got, Outcome) and got.numbers[0] == 0:
+            self.keep(case, got)
         return got
+
+    def keep(self, case: Case, got: Outcome) -> None:
+        """Keeps an accepted sheet, and its lifts by their method; where it is another one, the last is weighed."""
+        if self.sheet is None or of_sheet(self.sheet) != of_sheet(case):
+            self.weigh()
+            self.sheet = case
+        if case.operation == "plan":
+            self.lifts[case.method] = got.numbers[2]
+
+    def weigh(self) -> None:
+        """Holds the lifts of the sheet kept last to each other, by all methods, and to what document 02 names."""
+        case, lifts = self.sheet, self.lifts
+        self.sheet, self.lifts = None, {}
+        if case is None:
+            return
+        planned = case._replace(operation="plan", method=1, space=plan_space(len(case.now)), lifts=())
+        for other in (planned._replace(method=method) for method in METHODS if method not in lifts):
+            got = self.outcome(self.library, other)
+            if isinstance(got, str) or got.numbers[0] != 0:
+                self.count(False, other, lambda: got if isinstance(got, str) else f"an accepted sheet: {told(got)}")
+                return
+            lifts[other.method] = got.numbers[2]
+        astray = sheets.astray(case.now, case.goal)
+        wrong = promises.unkept_beside_us(all_down(case.now, case.goal, astray), lifts)
+        if len(case.now) <= SMALL and astray != misplaced(case.now, case.goal):
+            wrong.append(f"{astray} are misplaced from the ground up, which is not what the reading says")
+        self.count(not wrong, planned, lambda: "; ".join(wrong))
 
     def run(self, cases: Iterable[Case]) -> None:
         """Compares cases one by one."""
@@ -512,6 +550,7 @@ def tests(trial: Trial, seed: int) -> None:
     for name, part in parts:
         before, failed, start = trial.passed, len(trial.failures), time.monotonic()
         part(Random(f"{seed} {name}"))
+        trial.weigh()
         good, bad = trial.passed - before, len(trial.failures) - failed
         print(f"{name}: {good} passed, {bad} failed, {time.monotonic() - start:.1f} s", flush=True)
 
@@ -579,6 +618,7 @@ def main() -> int:
         """The whole run; its exit status."""
         if words.cases:
             given(trial, lines)
+            trial.weigh()
         else:
             print(f"seed {words.seed}", flush=True)
             tests(trial, words.seed)

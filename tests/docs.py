@@ -2,29 +2,31 @@
 
 crates/: each statement of specs/ has a proof in proofs/ of its crate. docs/WHY.md: each theorem or law stands in the
 lines that the page names, each sheet has the lists, counts and verdicts that the page states, the five piles have their
-lifts and reasons (all by reading.py), each picture is what tools/draw makes of its sheet; where another page says what
-a sheet reads and takes, it says the same. docs/CLASSROOM.md: what is to be changed stands there once, its sheet has the
-numbers that the page states, and the sheets for a course are those of their seed. docs/DEMANDS.md: each file,
-definition, function and must-fail edit that it names exists. The tests of the tools are those of commands.py,
-pictures.py and page_data.py.
+lifts and reasons (all by reading.py), the table of mean lifts is the library's for its seed (means.py), each picture is
+what tools/draw makes of its sheet; where another page says what a sheet reads and takes, it says the same.
+docs/CLASSROOM.md: what is to be changed stands there once, its sheet has the numbers that the page states, and the
+sheets for a course are those of their seed. docs/DEMANDS.md: each file, definition, function and must-fail edit that it
+names exists. The tests of the tools are those of commands.py, pictures.py and page_data.py.
 With --write it corrects the line numbers of docs/WHY.md and draws the pictures again.
 """
 
 import itertools
 import re
 import sys
-from collections.abc import Iterator
+from collections.abc import Iterator, Sequence
 from pathlib import Path
 from typing import NamedTuple
 
 import commands
+import means
 import page_data
 import pictures as of_draw
 import reading
 import sheets
 from case import flat, planning, read, testing
 from reading import METHODS, Pair, Yard
-from tested import ROOT, Test, counted, list_line, sheet_line, sheet_of, unlike
+from said import numbered
+from tested import ROOT, Test, counted, lacking, list_line, sheet_line, sheet_of, unlike
 
 WHY = ROOT / "docs" / "WHY.md"
 DEMANDS = ROOT / "docs" / "DEMANDS.md"
@@ -174,11 +176,20 @@ class Row(NamedTuple):
         return sheet_of(self.typed())
 
 
+def section(text: str, heading: str) -> str:
+    """What stands under a heading."""
+    return text.split(f"\n## {heading}\n", 1)[-1].split("\n## ", 1)[0]
+
+
 def table(text: str, heading: str) -> list[list[str]]:
     """The cells of the tables under a heading, the first one's head left out."""
-    section = text.split(f"\n## {heading}\n", 1)[-1].split("\n## ", 1)[0]
-    rows = [line for line in section.splitlines() if line.startswith("|")]
-    return [[cell.strip() for cell in row.strip("|").split("|")] for row in rows[2:]]
+    return whole_table(text, heading)[2:]
+
+
+def whole_table(text: str, heading: str) -> list[list[str]]:
+    """The cells of the tables under a heading, with heads and rules."""
+    rows = [line for line in section(text, heading).splitlines() if line.startswith("|")]
+    return [[cell.strip() for cell in row.strip("|").split("|")] for row in rows]
 
 
 def rows() -> dict[str, Row]:
@@ -281,7 +292,14 @@ def head_counts() -> Iterator[Test]:
 
 
 # How a picture is drawn, by what its name ends with.
-DRAWN = {"-lifts-3": ["--method", "3"], "-lifts": ["--method", "2"], "-ring": ["--ring"], "-loop": ["--loop"], "": []}
+DRAWN = {
+    "-lifts-1": ["--method", "1"],
+    "-lifts-3": ["--method", "3"],
+    "-lifts": ["--method", "2"],
+    "-ring": ["--ring"],
+    "-loop": ["--loop"],
+    "": [],
+}
 
 
 def picture(name: str) -> str:
@@ -449,6 +467,39 @@ def five_piles() -> Iterator[Test]:
     yield "WHY.md, the loop of the five piles", f"{missing} is not said" if missing else ""
 
 
+SPELT = ("no", "one", "two", "three", "four", "five", "six", "seven", "eight", "nine")
+
+
+def spelt(numbers: Sequence[int]) -> list[str]:
+    """Small numbers as words."""
+    return [SPELT[number] for number in numbers]
+
+
+def without_us() -> Iterator[Test]:
+    """What method 1 costs: what is said of the page's sheets, by the reading, and the table of mean lifts."""
+    heading = "Switching method 1 off"
+    now, goal = rows()["five"].sheet()
+    lifts = {name: [len(read(planning(m, *row.sheet())).pairs) for m in METHODS] for name, row in rows().items()}
+    astray, pairs = reading.misplaced(now, goal), read(planning(2, now, goal)).pairs
+    raised = [slab for slab in astray if now[slab - 1] != 0 and goal[slab - 1] != 0]
+    straight = [slab for slab in raised if [lifted for lifted, _ in pairs].count(slab) == 1]
+    misplaced, off = numbered(astray, " and "), numbered(raised, " and ")
+    said = [
+        "The five piles take {} lifts by method 1, against {} by method 2 or 3".format(*spelt(lifts["five"])),
+        f"In the five piles {misplaced} are misplaced, and of these {off} are off the ground both now and in the goal",
+        f": {len(astray)} + {len(raised)} = {reading.all_down(now, goal, astray)}.",
+        f"these are the lifts of {' and of '.join(map(str, straight))}",
+        f": {lifts['five'][0]} − {len(straight)} = {len(pairs)}.",
+        'on the sheet "waits" method 2 writes {} lifts and method 3 {}'.format(*spelt(lifts["waits"][1:])),
+        'on the sheet "longer" method 2 writes {} and method 3 {}'.format(*spelt(lifts["longer"][1:])),
+        f"on average over {means.SHEETS:,} random sheets of each size",
+        "`python3 tests/means.py` makes the table",
+    ]
+    yield "WHY.md, what is said of method 1", lacking(section(text_of(WHY), heading), said)
+    cells = whole_table(text_of(WHY), heading)
+    yield from means.tests(cells[:1] + cells[2:])
+
+
 def classroom() -> Iterator[Test]:
     """The exercises: what is replaced stands in its file once, and the sheet has the numbers that the checker shows."""
     text = text_of(CLASSROOM)
@@ -494,8 +545,8 @@ def main() -> int:
             if made:
                 (PICTURES / f"{name}.svg").write_text(made, encoding="utf-8")
     of_tools = [commands.tests({name: row.typed() for name, row in rows().items()}), of_draw.tests(), page_data.tests()]
-    of_why = [references(), page_sheets(), measured_sheets(), head_counts(), waiting(), five_piles(), pictures()]
-    return counted(itertools.chain(proved(), *of_why, classroom(), course(), demands(), *of_tools))
+    of_why = [references(), page_sheets(), measured_sheets(), head_counts(), waiting(), five_piles(), without_us()]
+    return counted(itertools.chain(proved(), *of_why, pictures(), classroom(), course(), demands(), *of_tools))
 
 
 if __name__ == "__main__":

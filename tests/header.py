@@ -328,7 +328,12 @@ TOLD = {
         "no list that arrives has fewer lifts than that",
         "the fewest lifts that could do exactly when nothing is deadlocked at the start",
     ],
-    "function plan": ["as pairs: slab, destination", "what lies behind the pairs keeps what it held"],
+    "function plan": [
+        "as pairs: slab, destination",
+        "what lies behind the pairs keeps what it held",
+        "one more for each of these that is off the ground both now and in the goal",
+        "for the same sheet gn1 and gn2 write no more than us",
+    ],
     "function deadlock": ["as pairs: the slab, and the slab through which the next one is in its way"],
     "function check_with": ["with lengths 16, 17 and 18"],
     "function plan_with": [

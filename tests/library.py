@@ -12,7 +12,7 @@ from typing import NamedTuple
 from case import SPACED, Answer, Case, flat
 
 sys.path.append(str(Path(__file__).resolve().parent.parent / "tools"))
-from topjeska import FIELDS, OF_TRAINING, ON_SHEETS, WITH_OPTIONS, functions, shared_object  # noqa: E402
+from topjeska import FIELDS, OF_TRAINING, ON_SHEETS, WITH_OPTIONS, current, functions, shared_object  # noqa: E402
 
 
 class Outcome(NamedTuple):

@@ -1,9 +1,10 @@
 """Demands 2 and 3 on a small accepted sheet: what a list, a count, a verdict and a deadlock answer keep, by search.
 
-With lengths the comparison is with lists that are legal under their rule.
+With lengths the comparison is with lists that are legal under their rule. And document 02, Job 4, on any accepted
+sheet: how many lifts method 1 takes, and that no method takes more.
 """
 
-from collections.abc import Sequence
+from collections.abc import Mapping, Sequence
 from typing import NamedTuple
 
 import reading
@@ -48,6 +49,12 @@ def unkept_by_list(sheet: Searched, method: int, pairs: Sequence[Pair]) -> list[
     if len(pairs) > (1 if at_once else 2) * sheet.fewest:
         wrong.append(f"method {method} takes {len(pairs)} lifts where {sheet.fewest} are enough")
     return wrong
+
+
+def unkept_beside_us(named: int, lifts: Mapping[int, int]) -> list[str]:
+    """What the lifts of the three methods break: 2 and 3 take no more than 1, which takes what document 02 names."""
+    more = [f"method {m} takes {lifts[m]} lifts, method 1 {lifts[1]}" for m in (2, 3) if lifts[m] > lifts[1]]
+    return more + [f"method 1 takes {lifts[1]} lifts, document 02 names {named}"] * (lifts[1] != named)
 
 
 def unkept_by_test(sheet: Searched, pairs: Sequence[Pair]) -> list[str]:

@@ -1,7 +1,8 @@
 """Document 01 read literally: the questions, the three methods, the deadlock test and replay.
 
-Of document 02 training, and lengths. An arrangement is a list of n numbers: entry i - 1 says what slab i rests on, 0
-for the ground. Lengths are None where a sheet has none, which is not the same as a list of none.
+Of document 02 training, lengths, and how many lifts method 1 takes. An arrangement is a list of n numbers: entry i - 1
+says what slab i rests on, 0 for the ground. Lengths are None where a sheet has none, which is not the same as a list of
+none.
 Each function follows its sentence and none is meant to be fast. `shortest` and `deadlocked`
 decide by search what the document only defines.
 """
@@ -69,6 +70,11 @@ def in_position(now: Yard, goal: Yard, slab: int) -> bool:
 def misplaced(now: Yard, goal: Yard) -> list[int]:
     """The slabs that are not in position, lowest first."""
     return [s for s in slabs(now) if not in_position(now, goal, s)]
+
+
+def all_down(now: Yard, goal: Yard, astray: Sequence[int]) -> int:
+    """The misplaced slabs, which are given, plus those of them that are off the ground both now and in the goal."""
+    return len(astray) + len([s for s in astray if now[s - 1] != 0 and goal[s - 1] != 0])
 
 
 def overhangs(lengths: Lengths, slab: int, support: int) -> bool:

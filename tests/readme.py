@@ -174,7 +174,7 @@ def layout() -> Iterator[Test]:
 # ---- the gate
 
 # The files with tests that another one runs.
-RUN_BY = {"commands.py": "docs.py", "page_data.py": "docs.py", "pictures.py": "docs.py"}
+RUN_BY = {"commands.py": "docs.py", "means.py": "docs.py", "page_data.py": "docs.py", "pictures.py": "docs.py"}
 
 
 def gate() -> Iterator[Test]:

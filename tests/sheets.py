@@ -153,6 +153,21 @@ def families(n: int) -> Iterator[Sheet]:
     yield now, [*range(k + 2, 2 * k + 2), *[0] * k, 0, 0, *pile[1:]]
 
 
+# ---- the misplaced slabs of large sheets
+
+
+def astray(now: Yard, goal: Yard) -> list[int]:
+    """The misplaced slabs, lowest first: each pile is climbed from the ground to the first slab that rests wrong."""
+    above = {support: slab for slab, support in enumerate(now, 1)}
+    right: set[int] = set()
+    for foot in reading.slabs(now):
+        slab = foot if now[foot - 1] == 0 else 0
+        while slab and now[slab - 1] == goal[slab - 1]:
+            right.add(slab)
+            slab = above.get(slab, 0)
+    return [slab for slab in reading.slabs(now) if slab not in right]
+
+
 # ---- every small sheet
 
 

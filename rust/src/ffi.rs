@@ -199,7 +199,9 @@ extern "C" {
 
     /// Writes the lifts of a method, one of `METHOD_...`, to the front of the space, as pairs: slab,
     /// destination. The space needs `plan_space` numbers; what lies behind the pairs keeps what it
-    /// held.
+    /// held. US writes as many lifts as slabs are misplaced, and one more for each of these that is
+    /// off the ground both now and in the goal; for the same sheet GN1 and GN2 write no more than US
+    /// (theorem `beside-us`).
     pub fn topjeska_plan(
         method: u16,
         now: *const u16,

@@ -15,7 +15,7 @@ use Rattle.blocks.specs.Method.{Method, Us, Gn1, Gn2, plan, outcome, bui
 use Rattle.blocks.specs.Question.{Question, allYes, firstNo, FirstNo, IsMethod, asksMethod, asksSize, asksRoom, asksPlan}
 use Rattle.blocks.specs.Question.{problemQuestions, planQuestions, deadlockQuestions, Refused, PlanRefused, DeadlockRefused}
 use Rattle.blocks.specs.Steps.{By, ByTest}
-use Rattle.blocks.specs.Answer.{flat, moves, planned, written, PlanAnswer, planAnswer, planSpace}
+use Rattle.blocks.specs.Answer.{flat, moves, planned, written, planAnswer, planSpace, writtenPlan}
 use Rattle.blocks.specs.Answer.{tested, deadlockAnswer, deadlockSpace}
 use Rattle.blocks.specs.Sheets.{Limits}
 use Rattle.blocks.proofs.MethodLaws.{method-written}
@@ -72,18 +72,22 @@ deadlock-answers s g space a h = (
 
 -- the list in the lent space is the method's plan
 module _ (m : Method) (s g : State) (space : List ℕ) (a : Accepted s g) (h : 4 * length s ≤ length space) where
-  pub written-is : moves (take (2 * (planAnswer (numberOf m) s g space) .count) (planSpace (numberOf m) s g space)) ≡ method-written m s g (a .problem) .0
+  pub written-is : writtenPlan (planAnswer (numberOf m) s g space) (planSpace (numberOf m) s g space) ≡ method-written m s g (a .problem) .0
   written-is =
       let p = method-written m s g (a .problem) .0 in
       let r = plan-answers m s g space a h p (method-written m s g (a .problem) .1) in
       let front : take (2 * length p) (flat p ++ drop (2 * length p) space) ≡ flat p =
       ap (λ k. take k (flat p ++ drop (2 * length p) space)) (sym (length-flat p)) ∙ take-append-seam (flat p) (drop (2 * length p) space) in
-      ap₂ (λ (o : PlanAnswer) l. moves (take (2 * o .count) l)) (r .0) (r .1) ∙ ap moves front ∙ pairs-back p
+      ap₂ writtenPlan (r .0) (r .1) ∙ ap moves front ∙ pairs-back p
 
-  pub written-solves : Solves s g (moves (take (2 * (planAnswer (numberOf m) s g space) .count) (planSpace (numberOf m) s g space)))
+  -- and the count is its length
+  pub count-is : (planAnswer (numberOf m) s g space) .count ≡ length (method-written m s g (a .problem) .0)
+  count-is = let w = method-written m s g (a .problem) in ap (λ o. o .count) (plan-answers m s g space a h (w .0) (w .1) .0)
+
+  pub written-solves : Solves s g (writtenPlan (planAnswer (numberOf m) s g space) (planSpace (numberOf m) s g space))
   written-solves = subst (Solves s g) (sym written-is) (method-written m s g (a .problem) .2 .solves)
 
-  pub written-told : By m s g (moves (take (2 * (planAnswer (numberOf m) s g space) .count) (planSpace (numberOf m) s g space)))
+  pub written-told : By m s g (writtenPlan (planAnswer (numberOf m) s g space) (planSpace (numberOf m) s g space))
   written-told = subst (By m s g) (sym written-is) (method-written m s g (a .problem) .2 .told)
 
 -- and so are the pairs of the deadlock test

@@ -25,6 +25,7 @@ pub mod FlatLaws
 pub mod WithLaws
 pub mod AnswerLaws
 pub mod AnsweredLaws
+pub mod BesideUsLaws
 pub mod Theorems
 pub mod WithTheorems
 pub mod Starred

@@ -6,20 +6,17 @@ use Prim.Native.Nat.{ℕ, suc, _*_, _≤_}
 use native.Mathlib.Omega.{arith}
 use lib.ListN.{length}
 use Rattle.blocks.specs.State.{State, support, put}
-use Rattle.lists.specs.Search.{count}
+use Rattle.lists.specs.Search.{count, Counts}
 use Rattle.blocks.specs.Position.{Proper, Problem, Misplaced}
 use Rattle.blocks.specs.Move.{Legal, Constructive}
 use Rattle.blocks.specs.Tests.{misplacedᵇ, misplacedCount, twiceᵇ, measure}
+use Rattle.blocks.specs.Stall.{Twice}
 use Rattle.lists.proofs.ReflectLaws.{Reflects, from-true, to-true, to-false, decided, reflects-and, reflects-not, reflects-same, eqb-reflects, same?}
-use Rattle.lists.proofs.SearchLaws.{count-le, count-ext, count-mono, count-one-more}
+use Rattle.lists.proofs.SearchLaws.{count-le, count-ext, count-mono, count-one-more, count-counts}
 use Rattle.blocks.proofs.StateLaws.{length-put, support-put-other}
 use Rattle.blocks.proofs.FrameLaws.{support-moved, position-frame, position-unframe, proper-moved}
 use Rattle.blocks.proofs.PositionLaws.{misplaced-test, position-moved, position-table}
 use Rattle.blocks.proofs.MisplacedLaws.{misplaced-falls, misplaced-stays}
-
--- a misplaced block off the table now and in the goal
-abbrev pub Twice : State → State → ℕ → Type 0
-Twice s g b = Misplaced s g b × ((support s b ≢ 0) × (support g b ≢ 0))
 
 pub twice-test : (s g : State) → Proper s → (b : ℕ) → Reflects (Twice s g b) (twiceᵇ s g b)
 unfolding twiceᵇ
@@ -31,6 +28,11 @@ pub measure-le : (s g : State) → Proper s → measure s g ≤ 2 * misplacedCou
 unfolding measure misplacedCount
 measure-le s g p =
     omega (arith, count-mono (twiceᵇ s g) (misplacedᵇ s g) (length s) (λ c _ _ e. to-true (misplaced-test s g p c) (from-true (twice-test s g p c) e .0)))
+
+-- what is counted are the misplaced blocks
+pub misplaced-counts : (s g : State) → Proper s → Counts (Misplaced s g) (length s) (misplacedCount s g)
+unfolding misplacedCount
+misplaced-counts s g p = count-counts (Misplaced s g) (misplacedᵇ s g) (misplaced-test s g p) (length s)
 
 pub misplaced-le : (s g : State) → misplacedCount s g ≤ length s
 unfolding misplacedCount

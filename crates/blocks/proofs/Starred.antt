@@ -10,7 +10,7 @@ use Rattle.lists.proofs.ReflectLaws.{same?}
 use Rattle.blocks.specs.State.{State}
 use Rattle.blocks.specs.Position.{Problem}
 use Rattle.blocks.specs.Move.{_⟶_, Plan, Solves}
-use Rattle.blocks.specs.Tests.{load, clearᵇ, groundedᵇ, agreesᵇ, inPositionᵇ, misplacedᵇ, waitingᵇ, readyᵇ, perchedᵇ, misplacedCount}
+use Rattle.blocks.specs.Tests.{load, clearᵇ, groundedᵇ, agreesᵇ, inPositionᵇ, misplacedᵇ, waitingᵇ, readyᵇ, perchedᵇ, twiceᵇ, misplacedCount, measure}
 use Rattle.blocks.specs.Loop.{lastMisplaced, blocker, top, successor, walk, loop, lowestOf, onward, blockedPairs}
 use Rattle.blocks.specs.Method.{Method, Gn1, plan, outcome, planOutcome, built, deadlockLoop, deadlockPairs}
 use Rattle.blocks.specs.Method.{iterate, fuel, lowestPerched, lowestReady, lowestOnLoop, clearing, building, solving}
@@ -19,7 +19,7 @@ use Rattle.blocks.specs.Question.{asksRoom, asksEven, asksPlan, stateQue
 use Rattle.blocks.specs.Replay.{moveQuestions}
 use Rattle.blocks.specs.Answer.{checkAnswer, planAnswer, planSpace, deadlockAnswer, deadlockSpace, firstDifference, replayFrom, replayAnswer}
 use Rattle.blocks.specs.Demands.{Fewest, HeadCount}
-use Rattle.blocks.specs.Sheets.{starred, ties, counts, verdicts, refusals, AllHold}
+use Rattle.blocks.specs.Sheets.{starred, ties, counts, lifts, verdicts, refusals, AllHold}
 use Rattle.blocks.proofs.Theorems.{theorems}
 
 -- without a deadlock as many moves as blocks are misplaced are the fewest
@@ -48,8 +48,8 @@ infixr 5 _&_
 abbrev pub _&_ : {A B : Type 0} → A → B → A × B
 a & b = (a, b)
 
-pub sheets-hold : AllHold starred × AllHold ties × AllHold counts × AllHold verdicts × AllHold refusals
-unfolding lowest count load clearᵇ groundedᵇ agreesᵇ inPositionᵇ misplacedᵇ waitingᵇ readyᵇ perchedᵇ misplacedCount lastMisplaced blocker top
+pub sheets-hold : AllHold starred × AllHold ties × AllHold counts × AllHold lifts × AllHold verdicts × AllHold refusals
+unfolding lowest count load clearᵇ groundedᵇ agreesᵇ inPositionᵇ misplacedᵇ waitingᵇ readyᵇ perchedᵇ twiceᵇ misplacedCount measure lastMisplaced blocker top
     successor walk loop lowestOf onward blockedPairs iterate fuel lowestPerched lowestReady lowestOnLoop clearing building solving outcome built
     deadlockLoop deadlockPairs asksMethod asksSize asksSame outsideᵇ firstOutside asksOutside sharedᵇ firstShared asksShared floatingᵇ firstFloating
     asksFloating asksRoom asksPlan stateQuestions problemQuestions checkAnswer planOutcome planQuestions planAnswer planSpace deadlockQuestions
@@ -64,6 +64,8 @@ sheets-hold = (
       (refl, refl, refl) & (refl, refl, refl) & (refl, refl, refl) & (refl, refl, refl) & (refl, refl, refl) & (refl, refl, refl) &
       (refl, refl, refl) & (refl, refl, refl) & (refl, refl, refl) & tt,
   (refl, refl) & (refl, refl) & (refl, refl) & (refl, refl) & (refl, refl) & (refl, refl) & two & six & tt,
+  refl & (refl, refl) & (refl, refl) & (refl, refl) & refl & (refl, refl) & refl & refl & (refl, refl) & (refl, refl) & (refl, refl) & refl &
+      (refl, refl) & (refl, refl) & (refl, refl) & tt,
   refl & refl & refl & refl & refl & refl & refl & refl & refl & refl & refl & refl & tt,
   refl & refl & refl & refl & refl & refl & refl & refl & refl & refl & refl & refl & (refl, refl) & (refl, refl) & (refl, refl) & (refl, refl) & (refl, refl) & (refl, refl) & refl & refl & tt,
 )

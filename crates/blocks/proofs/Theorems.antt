@@ -5,21 +5,19 @@ use mathlib.Core.Bool.{Bool, true}
 use Prim.Native.Nat.{ℕ, _*_, _≤_}
 use native.Mathlib.Omega.{arith}
 use lib.ListN.{length}
-use Rattle.lists.specs.Search.{Counts}
 use Rattle.blocks.specs.State.{State, support, down}
-use Rattle.blocks.specs.Position.{Proper, Problem, InPosition, Misplaced}
+use Rattle.blocks.specs.Position.{Problem, InPosition, Misplaced}
 use Rattle.blocks.specs.Move.{Plan, Solves}
-use Rattle.blocks.specs.Tests.{misplacedᵇ, misplacedCount}
+use Rattle.blocks.specs.Tests.{misplacedCount}
 use Rattle.blocks.specs.Method.{Method, Gn1, plan, outcome}
 use Rattle.blocks.specs.Demands.{NoDeadlock, Fewest, HeadCount, Promise, Economy, Theorems}
 use Rattle.lists.proofs.ReflectLaws.{Reflects, from-true, to-true}
-use Rattle.lists.proofs.SearchLaws.{count-counts}
 use Rattle.blocks.proofs.GroundLaws as ground
 use Rattle.blocks.proofs.ClearLaws as clear
 use Rattle.blocks.proofs.PositionLaws as positions
 use Rattle.blocks.proofs.BoundLaws as bounds
 use Rattle.blocks.proofs.MovedLaws as moved
-use Rattle.blocks.proofs.MeasureLaws.{measure-le, misplaced-le}
+use Rattle.blocks.proofs.MeasureLaws.{measure-le, misplaced-counts, misplaced-le}
 use Rattle.blocks.proofs.StallLaws as stalls
 use Rattle.blocks.proofs.LoopLaws as loops
 use Rattle.blocks.proofs.LoopToldLaws as told
@@ -31,6 +29,7 @@ use Rattle.blocks.proofs.DecidedLaws as rows
 use Rattle.blocks.proofs.ReplayLaws as replays
 use Rattle.blocks.proofs.AnswerLaws as plain
 use Rattle.blocks.proofs.AnsweredLaws as answers
+use Rattle.blocks.proofs.BesideUsLaws as beside
 
 -- a test that reflects a property, said as an equivalence
 pub exactly : {P : Type 0} {t : Bool} → Reflects P t → (t ≡ true) ↔ P
@@ -66,11 +65,6 @@ plan-fits m s g q p e =
     let same : w .0 ≡ p = cc (w .1) in
     let short : length (w .0) ≡ length p = ap length same in
     omega (arith, short, w .2 .bound, measure-le s g (q .initial), misplaced-le s g)
-
--- what is counted are the misplaced blocks
-misplaced-counts : (s g : State) → Proper s → Counts (Misplaced s g) (length s) (misplacedCount s g)
-unfolding misplacedCount
-misplaced-counts s g p = count-counts (Misplaced s g) (misplacedᵇ s g) (positions.misplaced-test s g p) (length s)
 
 -- without a deadlock method 2 moves each misplaced block once; with one, every plan has a move more
 head-count : (s g : State) → Problem s g → HeadCount s g (misplacedCount s g)
@@ -146,4 +140,8 @@ theorems =
       plan-fits = plan-fits;
       moves-all = λ s g p q. moved.moves-all q s g;
       head-count = head-count;
+      all-down = beside.all-down;
+      us-exact = beside.us-exact;
+      no-more-than-us = beside.no-more-than-us;
+      beside-us = beside.beside-us;
     }

@@ -4,13 +4,13 @@ use mathlib.Core.Path.{_≡_, sym, ap₂, _∙_, subst}
 use mathlib.Core.List.{List}
 use mathlib.Core.Option.{none}
 use Prim.Native.Nat.{ℕ, _*_, _≤_}
-use lib.ListN.{length, take}
+use lib.ListN.{length}
 use Rattle.blocks.specs.State.{State}
 use Rattle.blocks.specs.Move.{Plan}
 use Rattle.blocks.specs.Tests.{misplacedCount}
 use Rattle.blocks.specs.Method.{Method, Gn1, plan, outcome, numberOf}
-use Rattle.blocks.specs.Answer.{PlanAnswer, moves}
-use Rattle.blocks.specs.Demands.{NoDeadlock, Fewest, HeadCount, Promise}
+use Rattle.blocks.specs.Answer.{writtenPlan}
+use Rattle.blocks.specs.Demands.{NoDeadlock, Fewest, HeadCount, Promise, BesideUs}
 use Rattle.blocks.specs.Length.{Lengths, SolvesWith, AcceptedWith}
 use Rattle.blocks.specs.With.{planAnswerWith, planSpaceWith}
 use Rattle.blocks.specs.WithDemands.{PromiseWith, FewestWith, HeadCountWith, WithTheorems}
@@ -62,13 +62,21 @@ module _ (ls : Lengths) (s g : State) (a : AcceptedWith ls s g) where
 
   -- the list in the lent space is the one without lengths
   pub written-solves : (m : Method) (space : List ℕ) → 4 * length s ≤ length space
-      → SolvesWith ls s g (moves (take (2 * (planAnswerWith ls (numberOf m) s g space) .count) (planSpaceWith ls (numberOf m) s g space)))
+      → SolvesWith ls s g (writtenPlan (planAnswerWith ls (numberOf m) s g space) (planSpaceWith ls (numberOf m) s g space))
   written-solves m space room =
       let w = method-written m s g (a .accepted .problem) in
       let fitting = careful-fits ls (w .0) s g (goal-level ls s g (a .measured)) (w .2 .careful) in
       let same = with.same-lists .plan ls (numberOf m) s g space a in
-      let list = ap₂ (λ (o : PlanAnswer) l. moves (take (2 * o .count) l)) (same .0) (same .1) ∙ written-is m s g space (a .accepted) room in
+      let list = ap₂ writtenPlan (same .0) (same .1) ∙ written-is m s g space (a .accepted) room in
       subst (SolvesWith ls s g) (sym list) (record { solves = w .2 .solves; fits = fitting })
+
+  -- the answers and the spaces are those without lengths
+  pub beside-us : (m : Method) (one space : List ℕ) → 4 * length s ≤ length one → 4 * length s ≤ length space
+      → BesideUs s g (planAnswerWith ls 1 s g one) (planSpaceWith ls 1 s g one) (planAnswerWith ls (numberOf m) s g space) (planSpaceWith ls (numberOf m) s g space)
+  beside-us m one space room-one room =
+      let us = with.same-lists .plan ls 1 s g one a in
+      let any = with.same-lists .plan ls (numberOf m) s g space a in
+      rw (us .0, us .1, any .0, any .1) (theorems .beside-us m s g one space (a .accepted) room-one room)
 
 -- ---- without lengths
 
@@ -127,4 +135,5 @@ with-theorems =
       demand = λ ls m s g a. demand ls s g a m;
       written-solves = λ ls m s g space a. written-solves ls s g a m space;
       head-count = head-count;
+      beside-us = λ ls m s g one space a. beside-us ls s g a m one space;
     }

@@ -1,9 +1,9 @@
 -- What every public operation answers, and what the lent space then holds (document 01, "What is lent and written"). Assumes nothing.
-use Prim.Native.Nat.{ℕ, zero, suc}
+use Prim.Native.Nat.{ℕ, zero, suc, _*_}
 use mathlib.Core.Bool.{not}
 use mathlib.Core.List.{List, [], _∷_}
 use lib.Dec.{eqb}
-use lib.ListN.{length}
+use lib.ListN.{length, take}
 use Rattle.lists.specs.Lists.{overwrite}
 use Rattle.lists.specs.Search.{lowest}
 use Rattle.blocks.specs.State.{State, support, put}
@@ -62,6 +62,10 @@ written (no′ k q) l space = space
 
 unfoldable pub planSpace : ℕ → State → State → List ℕ → List ℕ
 planSpace m s g space = written (firstNo (planQuestions m s g space)) (flat (planOf (planOutcome m s g))) space
+
+-- The list that planning writes: "the pairs at the front of the lent space, as many as the lift count answered".
+abbrev pub writtenPlan : PlanAnswer → List ℕ → Plan
+writtenPlan answer space = moves (take (2 * answer .count) space)
 
 -- ---- the deadlock test: questions 2 to 10
 

@@ -14,13 +14,14 @@ use Rattle.blocks.specs.Move.{Plan, CarefulPlan, Moved, Solves}
 use Rattle.blocks.specs.Tests.{clearᵇ, groundedᵇ, inPositionᵇ, waitingᵇ, readyᵇ, perchedᵇ, misplacedCount, measure}
 use Rattle.blocks.specs.Deadlock.{next, Deadlock, Deadlocked}
 use Rattle.blocks.specs.Loop.{lastMisplaced, blocker, successor, loop}
-use Rattle.blocks.specs.Stall.{Waiting, Perched, Ready, NoneReady, IsLoop}
+use Rattle.blocks.specs.Stall.{Waiting, Perched, Twice, Ready, NoneReady, IsLoop}
 use Rattle.blocks.specs.Steps.{Stalled, LoopOf, By, ByTest}
 use Rattle.blocks.specs.Method.{Method, Us, plan, outcome, numberOf, deadlockLoop, deadlockPairs}
 use Rattle.blocks.specs.Question.{allYes, no′, firstNo, numbers, IsMethod, problemQuestions, planQuestions, deadlockQuestions, replayQuestions}
 use Rattle.blocks.specs.Question.{Refused, PlanRefused, DeadlockRefused, ReplayRefused}
 use Rattle.blocks.specs.Replay.{moveQuestions, Replayed}
-use Rattle.blocks.specs.Answer.{flat, moves, checkAnswer, planAnswer, planSpace, deadlockAnswer, deadlockSpace, noVerdict, replayFrom, replayAnswer}
+use Rattle.blocks.specs.Answer.{PlanAnswer, flat, moves, writtenPlan}
+use Rattle.blocks.specs.Answer.{checkAnswer, planAnswer, planSpace, deadlockAnswer, deadlockSpace, noVerdict, replayFrom, replayAnswer}
 
 -- "without a deadlock at the start": no blocks are deadlocked.
 abbrev pub NoDeadlock : State → State → Type 0
@@ -61,6 +62,23 @@ pub record Economy (m : Method) (s g : State) (p : Plan) : Type 0 where
   pub exact : m ≡ Us → length p ≡ measure s g
   -- without a deadlock GN1 and GN2 write as many moves as blocks are misplaced
   pub one-each : m ≢ Us → NoDeadlock s g → length p ≡ misplacedCount s g
+
+-- Document 02, Job 4: "the misplaced slabs plus those misplaced slabs that are off the ground both now and in the goal" are k.
+pub record AllDownTakes (s g : State) (k : ℕ) : Type 0 where
+  pub once : ℕ
+  pub again : ℕ
+  pub misplaced : Counts (Misplaced s g) (length s) once
+  pub twice : Counts (Twice s g) (length s) again
+  pub sum : k ≡ once + again
+
+-- Document 02, Job 4, of one problem planned by method 1 and by any method: what each answers, and the space as it leaves it.
+pub record BesideUs (s g : State) (us : PlanAnswer) (us-space : List ℕ) (any : PlanAnswer) (any-space : List ℕ) : Type 0 where
+  -- "method 1 writes the misplaced slabs plus those misplaced slabs that are off the ground both now and in the goal";
+  pub exact : length (writtenPlan us us-space) ≡ measure s g
+  pub exact-count : us .count ≡ measure s g
+  -- "methods 2 and 3 write no more lifts than method 1".
+  pub no-more : length (writtenPlan any any-space) ≤ length (writtenPlan us us-space)
+  pub no-more-count : any .count ≤ us .count
 
 -- What the deadlock test shows, in document 01's letters: the blocks of the loop are b1 to bp, and beside each stands the next d.
 pub record Shown (s g : State) (blocks pairs : List ℕ) : Type 0 where
@@ -129,7 +147,7 @@ pub record Theorems : Type 0 where
   pub loop-told : (s g : State) → Problem s g → Stalled s g → (l : List ℕ) → (loop s g ≡ l) ↔ LoopOf s g l
   -- the list written into the lent space is that plan
   pub written-told : (m : Method) (s g : State) (space : List ℕ) → Accepted s g → 4 * length s ≤ length space
-      → By m s g (moves (take (2 * (planAnswer (numberOf m) s g space) .count) (planSpace (numberOf m) s g space)))
+      → By m s g (writtenPlan (planAnswer (numberOf m) s g space) (planSpace (numberOf m) s g space))
   -- ---- demand 2: replay and the deadlock test
   -- each verdict and place exactly where its sentence holds; verdict 0 exactly when the plan is legal and ends in the goal
   pub replay-verdict : (s g : State) → length g ≡ length s → (p : Plan) (v k : ℕ)
@@ -161,8 +179,18 @@ pub record Theorems : Type 0 where
   pub demand : (m : Method) (s g : State) → Problem s g → (p : Plan) × (outcome m s g ≡ plan p) × Promise m s g p × Economy m s g p
   -- the list written into the lent space is that plan: it is legal and arrives
   pub written-solves : (m : Method) (s g : State) (space : List ℕ) → Accepted s g → 4 * length s ≤ length space
-      → Solves s g (moves (take (2 * (planAnswer (numberOf m) s g space) .count) (planSpace (numberOf m) s g space)))
+      → Solves s g (writtenPlan (planAnswer (numberOf m) s g space) (planSpace (numberOf m) s g space))
   pub plan-fits : (m : Method) (s g : State) → Problem s g → (p : Plan) → outcome m s g ≡ plan p → 2 * length p ≤ 4 * length s
   -- every legal plan that arrives moves every misplaced block; what their number promises
   pub moves-all : (s g : State) → Problem s g → (q : Plan) → Solves s g q → (b : ℕ) → Misplaced s g b → Moved b q
   pub head-count : (s g : State) → Problem s g → HeadCount s g (misplacedCount s g)
+  -- ---- document 02, Job 4: better than putting all down
+  -- the number that it names is what the measure computes
+  pub all-down : (s g : State) → Problem s g → AllDownTakes s g (measure s g)
+  -- of the lists that the methods' words give: "method 1 writes the misplaced slabs plus those misplaced slabs that are off the ground both now and in the goal",
+  pub us-exact : (s g : State) → Problem s g → (p : Plan) → By Us s g p → length p ≡ measure s g
+  -- and "on every accepted sheet methods 2 and 3 write no more lifts than method 1";
+  pub no-more-than-us : (m : Method) (s g : State) → Problem s g → (p q : Plan) → By m s g p → By Us s g q → length p ≤ length q
+  -- so both hold of the lists that planning writes and of the counts that it answers, whatever space each call is lent, if it is enough
+  pub beside-us : (m : Method) (s g : State) (one space : List ℕ) → Accepted s g → 4 * length s ≤ length one → 4 * length s ≤ length space
+      → BesideUs s g (planAnswer 1 s g one) (planSpace 1 s g one) (planAnswer (numberOf m) s g space) (planSpace (numberOf m) s g space)

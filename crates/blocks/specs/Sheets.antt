@@ -1,11 +1,12 @@
 -- The starred sheets of document 01, "Sheets with known ends", as one table of what the operations must answer, and further tables that settle ties, counts,
--- verdicts and refusals. proofs/Starred proves them whole. Assumes nothing.
+-- lifts, verdicts and refusals. proofs/Starred proves them whole. Assumes nothing.
 use Prim.Native.Nat.{ℕ, _+_, _*_, _-_}
 use mathlib.Core.Path.{_≡_}
 use mathlib.Core.List.{List, [], _∷_, _++_}
 use lib.ListN.{length, replicate}
 use Rattle.blocks.specs.State.{State}
 use Rattle.blocks.specs.Position.{Problem, Accepted}
+use Rattle.blocks.specs.Tests.{measure}
 use Rattle.blocks.specs.Method.{Method, numberOf}
 use Rattle.blocks.specs.Answer.{checkAnswer, planAnswer, planSpace, deadlockAnswer, deadlockSpace, replayAnswer}
 use Rattle.blocks.specs.Demands.{Fewest}
@@ -17,6 +18,7 @@ pub data Claim : Type 0 where
   shows : State → State → List ℕ → Claim  -- the deadlock test writes these pairs; none, where there is no deadlock
   misplaces : State → State → ℕ → Claim  -- planning answers so many misplaced slabs
   needs : State → State → ℕ → Claim  -- the fewest lifts that could do
+  allDown : State → State → ℕ → Claim  -- the number that document 02, Job 4, names for method 1
   replays : State → State → List ℕ → ℕ → ℕ → Claim  -- the list has this verdict and place
   refuses : State → ℕ → ℕ → Claim  -- with goals all 0 and as long: number and place
   refusesBoth : State → State → ℕ → ℕ → Claim  -- number and place of a check of both lists
@@ -44,6 +46,7 @@ Holds (shows s g l) =
     × ((deadlockAnswer s g (lent (2 * length s))) .number ≡ 0)
 Holds (misplaces s g c) = ((planAnswer 1 s g (lent (4 * length s))) .misplaced ≡ c) × ((planAnswer 1 s g (lent (4 * length s))) .number ≡ 0)
 Holds (needs s g k) = Fewest s g k
+Holds (allDown s g k) = measure s g ≡ k
 Holds (replays s g l v p) = replayAnswer s g l ≡ record { number = 0; verdict = v; place = p }
 Holds (refuses s k p) = checkAnswer s (replicate (length s) 0) ≡ record { number = k; place = p }
 Holds (refusesBoth s g k p) = checkAnswer s g ≡ record { number = k; place = p }
@@ -92,6 +95,25 @@ S6now = 2 ∷ 3 ∷ 0 ∷ []
 
 abbrev S6goal : State
 S6goal = 2 ∷ 0 ∷ 0 ∷ []
+
+-- Sheets of docs/WHY.md.
+abbrev fiveNow : State
+fiveNow = 0 ∷ 1 ∷ 0 ∷ 3 ∷ 4 ∷ 0 ∷ 6 ∷ 0 ∷ 8 ∷ 0 ∷ []
+
+abbrev fiveGoal : State
+fiveGoal = 7 ∷ 0 ∷ 0 ∷ 3 ∷ 10 ∷ 0 ∷ 8 ∷ 0 ∷ 6 ∷ 0 ∷ []
+
+abbrev waitsNow : State
+waitsNow = 6 ∷ 3 ∷ 0 ∷ 5 ∷ 0 ∷ 0 ∷ []
+
+abbrev waitsGoal : State
+waitsGoal = 2 ∷ 5 ∷ 0 ∷ 3 ∷ 0 ∷ 0 ∷ []
+
+abbrev longerNow : State
+longerNow = 3 ∷ 0 ∷ 4 ∷ 0 ∷ 2 ∷ 1 ∷ []
+
+abbrev longerGoal : State
+longerGoal = 2 ∷ 0 ∷ 1 ∷ 0 ∷ 4 ∷ 5 ∷ []
 
 -- The starred sheets, row by row as document 01 has them.
 abbrev pub starred : List Claim
@@ -175,6 +197,29 @@ counts =
     -- S2 needs as many lifts as slabs are misplaced; S6, which has a deadlock, one more
     needs S2now S2goal 2 ∷
     needs S6now S6goal 3 ∷
+    []
+
+-- The number that document 02, Job 4, names for method 1, and what each method takes.
+abbrev pub lifts : List Claim
+lifts =
+    -- the five piles of docs/WHY.md: five slabs are misplaced, and 5, 7 and 9 are off the ground both now and in the goal
+    allDown fiveNow fiveGoal 8 ∷
+    takes fiveNow fiveGoal 1 8 ∷
+    takes fiveNow fiveGoal 2 6 ∷
+    takes fiveNow fiveGoal 3 6 ∷
+    -- counted once: slab 1 of S2, which is off the ground now alone, and slab 2, in the goal alone; not at all: in position
+    allDown S2now S2goal 2 ∷
+    takes S2now S2goal 1 2 ∷
+    allDown (0 ∷ 1 ∷ 2 ∷ []) (0 ∷ 1 ∷ 2 ∷ []) 0 ∷
+    -- "waits" of docs/WHY.md: method 2 takes more than method 3; "longer": method 3 takes more than method 2
+    allDown waitsNow waitsGoal 6 ∷
+    takes waitsNow waitsGoal 1 6 ∷
+    takes waitsNow waitsGoal 2 5 ∷
+    takes waitsNow waitsGoal 3 4 ∷
+    allDown longerNow longerGoal 8 ∷
+    takes longerNow longerGoal 1 8 ∷
+    takes longerNow longerGoal 2 6 ∷
+    takes longerNow longerGoal 3 7 ∷
     []
 
 -- Each verdict of replay with its place, on S2 and S4.

@@ -20,6 +20,10 @@ Waiting s g b = Misplaced s g b × Clear s b
 abbrev pub Perched : State → State → ℕ → Type 0
 Perched s g b = Waiting s g b × (support s b ≢ 0)
 
+-- document 02, Job 4: "those misplaced slabs that are off the ground both now and in the goal". Where such a block is put down first it costs a second move.
+abbrev pub Twice : State → State → ℕ → Type 0
+Twice s g b = Misplaced s g b × ((support s b ≢ 0) × (support g b ≢ 0))
+
 -- A block that has a constructive move. Document 001, section 3.4, READY: "it is misplaced but clear and its target is in position and clear".
 abbrev pub Ready : State → State → ℕ → Type 0
 Ready s g b = Constructive s g b (support g b)

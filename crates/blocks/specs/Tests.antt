@@ -31,7 +31,7 @@ inPositionᵇ s g b = agreesᵇ s g (length s) b
 unfoldable pub misplacedᵇ : State → State → ℕ → Bool
 misplacedᵇ s g b = not (inPositionᵇ s g b)
 
--- Waiting, Ready and Perched, said in Stall.
+-- Waiting, Ready, Perched and Twice, said in Stall.
 unfoldable pub waitingᵇ : State → State → ℕ → Bool
 waitingᵇ s g b = misplacedᵇ s g b && clearᵇ s b
 
@@ -41,14 +41,13 @@ readyᵇ s g b = waitingᵇ s g b && (clearᵇ s (support g b) && inPositionᵇ 
 unfoldable pub perchedᵇ : State → State → ℕ → Bool
 perchedᵇ s g b = waitingᵇ s g b && not (eqb (support s b) 0)
 
+unfoldable pub twiceᵇ : State → State → ℕ → Bool
+twiceᵇ s g b = misplacedᵇ s g b && (not (eqb (support s b) 0) && not (eqb (support g b) 0))
+
 -- document 02, Job 2: "the number of misplaced slabs".
 unfoldable pub misplacedCount : State → State → ℕ
 misplacedCount s g = count (misplacedᵇ s g) (length s)
 
--- A misplaced block that is off the table now and in the goal: where it is put down first it costs a second move.
-unfoldable pub twiceᵇ : State → State → ℕ → Bool
-twiceᵇ s g b = misplacedᵇ s g b && (not (eqb (support s b) 0) && not (eqb (support g b) 0))
-
--- The measure of the methods: the misplaced blocks, and once more those that are off the table now and in the goal.
+-- document 02, Job 4: "the misplaced slabs plus those misplaced slabs that are off the ground both now and in the goal". The measure of the methods.
 unfoldable pub measure : State → State → ℕ
 measure s g = misplacedCount s g + count (twiceᵇ s g) (length s)

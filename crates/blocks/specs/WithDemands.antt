@@ -7,7 +7,7 @@ use mathlib.Core.Logic.{_≢_, _↔_}
 use mathlib.Core.Bool.{true}
 use mathlib.Core.List.{List, [], _∷_}
 use mathlib.Core.Option.{none, some}
-use lib.ListN.{length, take}
+use lib.ListN.{length}
 use Rattle.lists.specs.Search.{Counts}
 use Rattle.blocks.specs.State.{State}
 use Rattle.blocks.specs.Position.{Misplaced}
@@ -16,8 +16,8 @@ use Rattle.blocks.specs.Tests.{misplacedCount}
 use Rattle.blocks.specs.Deadlock.{Deadlocked}
 use Rattle.blocks.specs.Method.{Method, Us, plan, outcome, numberOf}
 use Rattle.blocks.specs.Question.{allYes, no′, firstNo, numbers, IsMethod}
-use Rattle.blocks.specs.Answer.{moves, checkAnswer, planAnswer, planSpace, deadlockAnswer, deadlockSpace, noVerdict, replayAnswer}
-use Rattle.blocks.specs.Demands.{NoDeadlock}
+use Rattle.blocks.specs.Answer.{moves, checkAnswer, planAnswer, planSpace, writtenPlan, deadlockAnswer, deadlockSpace, noVerdict, replayAnswer}
+use Rattle.blocks.specs.Demands.{NoDeadlock, BesideUs}
 use Rattle.blocks.specs.Length.{Lengths, Fits, fitsᵇ, SolvesWith, AcceptedWith}
 use Rattle.blocks.specs.With.{problemQuestionsWith, planQuestionsWith, deadlockQuestionsWith, replayQuestionsWith, liftQuestions}
 use Rattle.blocks.specs.With.{RefusedWith, PlanRefusedWith, DeadlockRefusedWith, ReplayRefusedWith, ReplayedWith}
@@ -113,5 +113,8 @@ pub record WithTheorems : Type 0 where
   -- ---- demand 3: every method gives a plan, and keeps the promise under the rule
   pub demand : (ls : Lengths) (m : Method) (s g : State) → AcceptedWith ls s g → (p : Plan) × (outcome m s g ≡ plan p) × PromiseWith ls m s g p
   pub written-solves : (ls : Lengths) (m : Method) (s g : State) (space : List ℕ) → AcceptedWith ls s g → 4 * length s ≤ length space
-      → SolvesWith ls s g (moves (take (2 * (planAnswerWith ls (numberOf m) s g space) .count) (planSpaceWith ls (numberOf m) s g space)))
+      → SolvesWith ls s g (writtenPlan (planAnswerWith ls (numberOf m) s g space) (planSpaceWith ls (numberOf m) s g space))
   pub head-count : (ls : Lengths) (s g : State) → AcceptedWith ls s g → HeadCountWith ls s g (misplacedCount s g)
+  -- ---- Job 4, as without lengths
+  pub beside-us : (ls : Lengths) (m : Method) (s g : State) (one space : List ℕ) → AcceptedWith ls s g → 4 * length s ≤ length one → 4 * length s ≤ length space
+      → BesideUs s g (planAnswerWith ls 1 s g one) (planSpaceWith ls 1 s g one) (planAnswerWith ls (numberOf m) s g space) (planSpaceWith ls (numberOf m) s g space)
