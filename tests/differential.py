@@ -583,7 +583,7 @@ def watched(work: Callable[[Trial], int], library: Library, plain: Library) -> i
     end = ended(child, trial.progress)
     if isinstance(end, int):
         return end
-    print(f"failed: {end}, in this case or before the next")
+    print(f"failed: {end}, in this case, by another method on the sheet before it, or before the next case")
     try:
         with contextlib.redirect_stdout(io.StringIO()):
             work(Trial(library, plain, int.from_bytes(trial.progress[:], "little")))

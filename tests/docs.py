@@ -481,13 +481,13 @@ def without_us() -> Iterator[Test]:
     now, goal = rows()["five"].sheet()
     lifts = {name: [len(read(planning(m, *row.sheet())).pairs) for m in METHODS] for name, row in rows().items()}
     astray, pairs = reading.misplaced(now, goal), read(planning(2, now, goal)).pairs
-    raised = [slab for slab in astray if now[slab - 1] != 0 and goal[slab - 1] != 0]
-    straight = [slab for slab in raised if [lifted for lifted, _ in pairs].count(slab) == 1]
-    misplaced, off = numbered(astray, " and "), numbered(raised, " and ")
+    twice = reading.twice(now, goal, astray)
+    straight = [slab for slab in twice if [lifted for lifted, _ in pairs].count(slab) == 1]
+    misplaced, off = numbered(astray, " and "), numbered(twice, " and ")
     said = [
         "The five piles take {} lifts by method 1, against {} by method 2 or 3".format(*spelt(lifts["five"])),
         f"In the five piles {misplaced} are misplaced, and of these {off} are off the ground both now and in the goal",
-        f": {len(astray)} + {len(raised)} = {reading.all_down(now, goal, astray)}.",
+        f": {len(astray)} + {len(twice)} = {reading.all_down(now, goal, astray)}.",
         f"these are the lifts of {' and of '.join(map(str, straight))}",
         f": {lifts['five'][0]} − {len(straight)} = {len(pairs)}.",
         'on the sheet "waits" method 2 writes {} lifts and method 3 {}'.format(*spelt(lifts["waits"][1:])),

@@ -94,8 +94,8 @@ class Means(NamedTuple):
 
     def cells(self) -> list[str]:
         """A row of the table."""
-        means = [f"{mean:.1f}" for mean in (self.misplaced, *self.lifts)]
-        return [str(self.slabs), *means, *map(str, self.shorter)]
+        rounded = [f"{mean:.1f}" for mean in (self.misplaced, *self.lifts)]
+        return [str(self.slabs), *rounded, *map(str, self.shorter)]
 
 
 def means(library: Library, seed: int, n: int, number: int) -> Means:

@@ -72,9 +72,14 @@ def misplaced(now: Yard, goal: Yard) -> list[int]:
     return [s for s in slabs(now) if not in_position(now, goal, s)]
 
 
+def twice(now: Yard, goal: Yard, astray: Sequence[int]) -> list[int]:
+    """Of the misplaced slabs, which are given, those that are off the ground both now and in the goal."""
+    return [s for s in astray if now[s - 1] != 0 and goal[s - 1] != 0]
+
+
 def all_down(now: Yard, goal: Yard, astray: Sequence[int]) -> int:
-    """The misplaced slabs, which are given, plus those of them that are off the ground both now and in the goal."""
-    return len(astray) + len([s for s in astray if now[s - 1] != 0 and goal[s - 1] != 0])
+    """The misplaced slabs plus those misplaced slabs that are off the ground both now and in the goal."""
+    return len(astray) + len(twice(now, goal, astray))
 
 
 def overhangs(lengths: Lengths, slab: int, support: int) -> bool:
