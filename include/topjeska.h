@@ -26,40 +26,51 @@ extern "C" {
 
 /* ---- version, of this header and of the library beside it */
 
-#define TOPJESKA_VERSION "0.4.0"
+#define TOPJESKA_VERSION "0.5.0"
 #define TOPJESKA_VERSION_MAJOR 0
-#define TOPJESKA_VERSION_MINOR 4
+#define TOPJESKA_VERSION_MINOR 5
 #define TOPJESKA_VERSION_PATCH 0
 
 /* ---- limits and memory */
 
-/* The most slabs of a sheet. */
+/* The most slabs of a sheet: the limit of topjeska_plan, the yard office's entry to planning, and
+ * of all other functions on sheets but the panel's entry. */
 #define TOPJESKA_MOST_SLABS 4000u
+
+/* The most slabs of a sheet at the panel: the limit of topjeska_plan_panel, the panel's entry to
+ * planning. */
+#define TOPJESKA_MOST_PANEL 600u
 
 /* The most slabs of a training sheet. */
 #define TOPJESKA_MOST_TRAINED 16u
 
-/* The numbers of lent space that planning needs for n slabs. */
+/* The numbers of lent space that planning needs for n slabs, by both entries alike: at most 16,000
+ * by the yard office's, and 2,400 by the panel's. */
 #define TOPJESKA_PLAN_SPACE(n) (4u * (n))
 
 /* The numbers of lent space that the deadlock test needs for n slabs. */
 #define TOPJESKA_DEADLOCK_SPACE(n) (2u * (n))
 
 /* The bytes of stack that every call stays below. No call allocates memory or keeps a pointer: the
- * working lists lie on the stack, and are as long for a few slabs as for 4,000. Measured with a
- * thread for each call, its own needs included:
+ * working lists lie on the stack, and are as long for a few slabs as for 4,000, by the panel's
+ * entry too. Measured with a thread for each call, its own needs included:
  *
- *     check           36 KiB
- *     replay          44 KiB
- *     planning        84 KiB
- *     deadlock test  115 KiB
- *     training         6 KiB */
+ *     check                   36 KiB
+ *     replay                  44 KiB
+ *     planning                84 KiB
+ *     planning by the panel   84 KiB
+ *     deadlock test          115 KiB
+ *     training                 6 KiB */
 #define TOPJESKA_STACK_BYTES 163840u
 
-/* ---- options of a sheet: bits, of which those that have no name here are not looked at */
+/* ---- options: bits, of which those that have no name here are not looked at */
 
 /* The sheet has lengths. Without this bit the lengths are not looked at. */
 #define TOPJESKA_LENGTHS 1u
+
+/* Planning is by the panel's entry. Planning alone looks at this bit: check, deadlock test and
+ * replay do not ask 19. */
+#define TOPJESKA_PANEL 2u
 
 /* ---- methods of planning */
 
@@ -76,9 +87,9 @@ extern "C" {
 /* ---- refusals: the number of the first question that got a "no"
  *
  * In brackets who asks it, or of what sheets, where not all that take a sheet do; the place is 0
- * where none is named. 16, 17 and 18 are asked after 9, in that order. Training asks 14, 15 and 10,
- * in that order. 12 is the planning program's alone, and 13 is never answered (theorem `never-13`):
- * no function here gives them. */
+ * where none is named. 16, 17 and 18 are asked after 9, in that order. 19 is the panel's, and is
+ * asked directly after 2. Training asks 14, 15 and 10, in that order. 12 is the planning program's
+ * alone, and 13 is never answered (theorem `never-13`): no function here gives them. */
 
 /* Is the method 1, 2 or 3? (planning) */
 #define TOPJESKA_REFUSAL_METHOD 1u
@@ -138,6 +149,9 @@ extern "C" {
 /* Is each slab at most as long as the slab it rests on in the goal? (with lengths) Place: the
  * lowest slab that overhangs. */
 #define TOPJESKA_REFUSAL_GOAL_OVERHANG 18u
+
+/* Has the now list at most 600 entries? (panel) */
+#define TOPJESKA_REFUSAL_PANEL 19u
 
 /* ---- verdicts of replay */
 
@@ -214,10 +228,19 @@ topjeska_check_answer topjeska_check(const uint16_t *now, size_t now_len,
  * slab, destination. The space needs TOPJESKA_PLAN_SPACE numbers; what lies behind the pairs keeps
  * what it held. US writes as many lifts as slabs are misplaced, and one more for each of these that
  * is off the ground both now and in the goal; for the same sheet GN1 and GN2 write no more than US
- * (theorem `beside-us`). */
+ * (theorem `beside-us`). This is the yard office's entry, which takes at most TOPJESKA_MOST_SLABS
+ * slabs. */
 topjeska_plan_answer topjeska_plan(uint16_t method, const uint16_t *now, size_t now_len,
                                    const uint16_t *goal, size_t goal_len,
                                    uint16_t *space, size_t space_len);
+
+/* As topjeska_plan, by the entry of the panel in the crane cabin, which takes at most
+ * TOPJESKA_MOST_PANEL slabs: TOPJESKA_REFUSAL_PANEL is asked directly after
+ * TOPJESKA_REFUSAL_TOO_MANY. On so many slabs or fewer both entries give equal answers and leave
+ * equal space (theorem `same-answers`). */
+topjeska_plan_answer topjeska_plan_panel(uint16_t method, const uint16_t *now, size_t now_len,
+                                         const uint16_t *goal, size_t goal_len,
+                                         uint16_t *space, size_t space_len);
 
 /* Writes the deadlock that the constructive lifts come to, if any, to the front of the space, as
  * pairs: the slab, and the slab through which the next one is in its way. The space needs
@@ -231,16 +254,16 @@ topjeska_replay_answer topjeska_replay(const uint16_t *now, size_t now_len,
                                        const uint16_t *goal, size_t goal_len,
                                        const uint16_t *lifts, size_t lifts_len);
 
-/* ---- functions on sheets with options, such as TOPJESKA_LENGTHS */
+/* ---- functions on sheets with options, such as TOPJESKA_LENGTHS and TOPJESKA_PANEL */
 
 /* Puts questions 2 to 9 to a sheet, and with lengths 16, 17 and 18. */
 topjeska_check_answer topjeska_check_with(uint16_t options, const uint16_t *now, size_t now_len,
                                           const uint16_t *goal, size_t goal_len,
                                           const uint16_t *lengths, size_t lengths_len);
 
-/* As topjeska_plan. A sheet that is accepted with lengths has the same list with them and without.
- * With them all that is promised of a list compares it with lists that are legal with lengths, and
- * it is legal with lengths itself. */
+/* As topjeska_plan, and with TOPJESKA_PANEL as topjeska_plan_panel. A sheet that is accepted with
+ * lengths has the same list with them and without. With them all that is promised of a list
+ * compares it with lists that are legal with lengths, and it is legal with lengths itself. */
 topjeska_plan_answer topjeska_plan_with(uint16_t options, uint16_t method, const uint16_t *now,
                                         size_t now_len, const uint16_t *goal, size_t goal_len,
                                         const uint16_t *lengths, size_t lengths_len,
@@ -269,9 +292,11 @@ topjeska_replay_answer topjeska_replay_with(uint16_t options, const uint16_t *no
  *                      .goal = goal, .goal_len = n, .lengths = lengths, .lengths_len = n}
  *
  * and in C++ `topjeska_sheet sheet = {}; sheet.options = TOPJESKA_LENGTHS; sheet.now = now;` and so
- * on. What is not named is 0, so that a sheet without lengths leaves out options and lengths.
- * Beware: lengths without the option are not looked at, and the sheet is answered as one that has
- * none. Fields that come later go behind these, and are not looked at without their option. */
+ * on. What is not named is 0, so that a sheet without lengths leaves out the lengths and, but for
+ * planning by the panel's entry, the options. Beware: lengths without the option are not looked at,
+ * and the sheet is answered as one that has none. Options stand together: with `.options =
+ * TOPJESKA_LENGTHS | TOPJESKA_PANEL` the sheet has lengths and topjeska_sheet_plan is the panel's.
+ * Fields that come later go behind these, and are not looked at without their option. */
 typedef struct {
     uint16_t options;
     const uint16_t *now;

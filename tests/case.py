@@ -1,23 +1,25 @@
 """A case: an operation with what it is lent. It is made here, written as a line, and answered by the reading.
 
 As a line: `plan m=2 now=2,0 goal=0,1 space=8`; with lengths `plan m=2 now=2,0 goal=0,1 lengths=300,250 space=8`,
-and where the options are others than the lengths' bit, `options=65534` before them.
+and where the options are others than the lengths' bit, `options=65534` before them. Planning by the panel's entry is
+`panel m=2 now=2,0 goal=0,1 space=8`, or `plan` with options that have its bit.
 """
 
 from collections.abc import Iterable, Iterator, Sequence
 from typing import NamedTuple
 
 import reading
-from reading import LENGTHS, METHODS, Lengths, Pair, Yard
+from reading import LENGTHS, METHODS, MOST, MOST_PANEL, PANEL, Lengths, Pair, Yard
 
-# The operations that are lent space.
-SPACED = ("plan", "deadlock")
+# The operations that plan, the yard office's and the panel's, and all that are lent space.
+PLANNING = ("plan", "panel")
+SPACED = (*PLANNING, "deadlock")
 
 
 class Case(NamedTuple):
     """A call: the operation, the two lists, and what only some operations take.
 
-    Without options it is a call of the function that takes none, and no lengths.
+    Without options it is a call of the function that takes none, and no lengths; `panel` never has options.
     """
 
     operation: str
@@ -32,6 +34,11 @@ class Case(NamedTuple):
     def looked_at(self) -> Lengths:
         """The lengths, where the options say that there are some."""
         return self.lengths if (self.options or 0) & LENGTHS else None
+
+    def most(self) -> int:
+        """How many slabs the operation takes; planning alone looks at the panel's bit."""
+        panel = self.operation == "panel" or self.operation == "plan" and (self.options or 0) & PANEL
+        return MOST_PANEL if panel else MOST
 
 
 class Answer(NamedTuple):
@@ -98,6 +105,17 @@ def measured(cases: Iterable[Case], lengths: Yard, options: int = LENGTHS) -> It
     return (case._replace(options=options, lengths=lengths) for case in cases)
 
 
+def by_panel(case: Case) -> list[Case]:
+    """A case of planning by the panel's entry: by its option, and where it has no options by its function before."""
+    by_option = case._replace(options=(case.options or 0) | PANEL)
+    return [by_option] if case.options is not None else [case._replace(operation="panel"), by_option]
+
+
+def by_office(case: Case) -> Case:
+    """A case as one of planning by the yard office's entry."""
+    return case._replace(operation="plan", options=case.options and case.options & ~PANEL)
+
+
 # ---- the answer of the reading
 
 
@@ -107,8 +125,8 @@ def read(case: Case) -> Answer:
     numbers: Sequence[int]
     if case.operation == "check":
         numbers = reading.check(now, goal, lengths)
-    elif case.operation == "plan":
-        *numbers, pairs = reading.plan(case.method, now, goal, case.space, lengths)
+    elif case.operation in PLANNING:
+        *numbers, pairs = reading.plan(case.method, now, goal, case.space, lengths, case.most())
     elif case.operation == "deadlock":
         *numbers, pairs = reading.deadlock(now, goal, case.space, lengths)
     else:
@@ -132,7 +150,7 @@ def numbers_of(text: str) -> list[int]:
 def line(case: Case) -> str:
     """A case as a line."""
     words = [case.operation]
-    if case.operation == "plan":
+    if case.operation in PLANNING:
         words.append(f"m={case.method}")
     words += [f"now={listed(case.now)}", f"goal={listed(case.goal)}"]
     if case.options is not None:

@@ -1,8 +1,8 @@
 """Runs the commands of tools/ and holds what they write to document 01 and the reading.
 
 tools/records.py packs the document's example. tools/sheet: each sentence about a list, each lift's reason, rings,
-verdicts, sheets with lengths, training sheets, refusals, bad lines, JSON, where sheets come from, and how it ends. All
-run where there is no folder tests/.
+verdicts, sheets with lengths, training sheets, refusals, planning as the panel, bad lines, JSON, where sheets come
+from, and how it ends. All run where there is no folder tests/.
 """
 
 import itertools
@@ -21,7 +21,7 @@ import reading
 import records
 import sheets
 from case import planning, read
-from reading import METHODS, MOST, TOP, VERDICTS, Lengths, Pair, Yard
+from reading import METHODS, MOST, MOST_PANEL, TOP, VERDICTS, Lengths, Pair, Yard
 from records import EXAMPLE
 from said import arranged_object, check_object, deadlock_object, plan_object, replay_object, trained_objects
 from said import right_check, right_deadlock, right_plan, right_replay, ring_words, untrue
@@ -438,6 +438,27 @@ def sheet_refusals() -> Iterator[Test]:
     yield "tools/sheet, a refusal among lists", wrong
 
 
+def sheet_panel() -> Iterator[Test]:
+    """Planning as the panel, with lengths and without: up to its limit as the yard office, above it refused."""
+    some = [sheet_line(*sheet) for sheet in (*sheets.STATED, ([2, 0], [0, 0], [250, 300]))]
+    ground = {n: sheet_line([0] * n, [0] * n) for n in (MOST_PANEL, MOST_PANEL + 1, MOST, MOST + 1)}
+    some += [ground[MOST_PANEL], "1 / 0", "2 0 / 0 0 / 300 250"]
+    for words in (["2", *some], ["3", "--json", *some], ["4", "0 / 0"]):
+        office, panel = run(["sheet", "plan", *words]), run(["sheet", "plan", *words, "--panel"])
+        told, right = (panel.returncode, panel.stdout), (office.returncode, office.stdout)
+        yield f"tools/sheet plan {words[0]} --panel, {len(some)} sheets", unlike(told, right)
+    for n, more in ((MOST_PANEL + 1, "601 entries, 1 too many."), (MOST, "4,000 entries, 3,400 too many.")):
+        for line in (ground[n], f"{ground[n]} / 300"):
+            ended = run(["sheet", "plan", "2", line, "--panel"])
+            parts = ["refused: 19, place 0", f"Has the now list at most 600 entries? No: the now list has {more}"]
+            yield f"tools/sheet plan --panel, {n} slabs", misended(ended, 1) or lacking(unwrapped(ended.stdout), parts)
+    for method, n, number in ((4, MOST, 1), (2, MOST + 1, 2)):
+        ended = run(["sheet", "plan", str(method), ground[n], "--panel"])
+        yield f"tools/sheet plan --panel, {n} slabs by {method}", misended(ended, 1, [f"refused: {number}, place 0"])
+    ended = run(["sheet", "plan", "2", ground[MOST_PANEL + 1]])
+    yield "tools/sheet plan, a slab more than the panel takes", misended(ended, 0, ["no lifts are needed"])
+
+
 def sheet_sources() -> Iterator[Test]:
     """Sheets with names, from files, from standard input, and from what the tool printed; lists likewise."""
     now, goal = sheets.STATED[3]
@@ -629,7 +650,7 @@ def on_demand() -> Iterator[Test]:
 
 def tests(page: dict[str, str]) -> Iterator[Test]:
     """All tests of the tools, with the sheets of a page as they are typed."""
-    of_answers = (sheet_words(page), sheet_replays(), sheet_objects(), sheet_refusals())
+    of_answers = (sheet_words(page), sheet_replays(), sheet_objects(), sheet_refusals(), sheet_panel())
     of_training = (sheet_trains(), sheet_untrained())
     of_words = (sheet_records(), sheet_sources(), sheet_pipes(), sheet_edges(), unwritten())
     return itertools.chain(records_tool(), *of_answers, *of_training, *of_words, alone(), on_demand())

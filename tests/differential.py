@@ -4,9 +4,10 @@ Up to 8 slabs the expected outcome is the reading's (reading.py), and the promis
 held to its breadth-first search. Above, it is that of the plain Rust program (plain/), which is held
 to the reading on every small case too. With lengths the same; equal lengths, and lengths that the
 options do not name, must also be answered as none. On every accepted sheet the lifts of the three
-methods are held to each other and to the number that document 02, Job 4, names. A failing case is
-printed as a line, also where the library crashes or does not return; run lines again with
-`python3 tests/differential.py --cases FILE` (`-`: standard input).
+methods are held to each other and to the number that document 02, Job 4, names. Every case of planning
+is put to the panel's entry too: up to 600 slabs the outcomes of both are equal, and at the limits they
+are what the documents state. A failing case is printed as a line, also where the library crashes or
+does not return; run lines again with `python3 tests/differential.py --cases FILE` (`-`: standard input).
 """
 
 import argparse
@@ -23,14 +24,19 @@ import sys
 import time
 from collections.abc import Callable, Iterable, Iterator
 from pathlib import Path
+from typing import NamedTuple
 
 import promises
 import sheets
 from case import (
+    PLANNING,
     Answer,
     Case,
     by_all,
+    by_office,
+    by_panel,
     case_of,
+    checking,
     flat,
     line,
     listed,
@@ -43,8 +49,8 @@ from case import (
     replaying,
     testing,
 )
-from library import FIELDS, Fault, Library, Outcome, shared_object
-from reading import LENGTHS, METHODS, MOST, NO_VERDICT, TOP, Lengths, Yard
+from library import Fault, Library, Outcome, fields, shared_object
+from reading import LENGTHS, METHODS, MOST, MOST_PANEL, NO_VERDICT, PANEL, TOP, Lengths, Yard
 from reading import all_down, check, deadlock_space, misplaced, plan_space
 from sheets import Sheet, Walk
 
@@ -65,9 +71,9 @@ UNSTATED = "*"
 Random = random.Random
 
 
-def told(outcome: Outcome) -> str:
-    """An outcome as a line has it: the numbers, and the whole space where it is short."""
-    return f"{listed(outcome.numbers)} | {listed(outcome.space[:200])}"
+def told(outcome: Outcome | str) -> str:
+    """An outcome as a line has it, the numbers and the whole space where it is short; or what was wrong."""
+    return outcome if isinstance(outcome, str) else f"{listed(outcome.numbers)} | {listed(outcome.space[:200])}"
 
 
 def of_sheet(case: Case) -> tuple[Yard, Yard, Lengths]:
@@ -91,6 +97,7 @@ class Trial:
         self.progress = mmap.mmap(-1, 8)
         self.sheet: Case | None = None
         self.lifts: dict[int, int] = {}
+        self.turn = 0
 
     def count(self, good: bool, case: Case, why: Callable[[], str]) -> None:
         """Counts a case; keeps the line of a failing one, and prints the first few."""
@@ -111,6 +118,21 @@ class Trial:
             return str(fault)
 
     def compare(self, case: Case) -> Outcome | str:
+        """Compares a case; one of planning by the yard office's entry also by the panel's, by its ways in turn.
+
+        The library's outcomes are equal where the panel takes as many slabs.
+        """
+        office = self.compare_one(case)
+        if case.operation == "plan" and case.most() == MOST:
+            self.turn += 1
+            ways = by_panel(case)
+            other = ways[self.turn % len(ways)]
+            panel = self.compare_one(other)
+            if len(case.now) <= MOST_PANEL:
+                self.count(panel == office, other, lambda: f"panel {told(panel)}; yard office {told(office)}")
+        return office
+
+    def compare_one(self, case: Case) -> Outcome | str:
         """Holds the library to the reading on a small case, to the plain program on any."""
         self.index += 1
         if self.index == self.wanted:
@@ -127,7 +149,7 @@ class Trial:
         def why() -> str:
             """The outcomes that differ."""
             named = (("expected", expected), ("library", got), ("plain", plain))
-            return "; ".join(f"{name} {o if isinstance(o, str) else told(o)}" for name, o in named)
+            return "; ".join(f"{name} {told(outcome)}" for name, outcome in named)
 
         self.count(good, case, why)
         if isinstance(got, Outcome) and got.numbers[0] == 0:
@@ -139,7 +161,7 @@ class Trial:
         if self.sheet is None or of_sheet(self.sheet) != of_sheet(case):
             self.weigh()
             self.sheet = case
-        if case.operation == "plan":
+        if case.operation in PLANNING:
             self.lifts[case.method] = got.numbers[2]
 
     def weigh(self) -> None:
@@ -148,11 +170,11 @@ class Trial:
         self.sheet, self.lifts = None, {}
         if case is None:
             return
-        planned = case._replace(operation="plan", method=1, space=plan_space(len(case.now)), lifts=())
+        planned = by_office(case)._replace(method=1, space=plan_space(len(case.now)), lifts=())
         for other in (planned._replace(method=method) for method in METHODS if method not in lifts):
             got = self.outcome(self.library, other)
             if isinstance(got, str) or got.numbers[0] != 0:
-                self.count(False, other, lambda: got if isinstance(got, str) else f"an accepted sheet: {told(got)}")
+                self.count(False, other, lambda: f"an accepted sheet: {told(got)}")
                 return
             lifts[other.method] = got.numbers[2]
         astray = sheets.astray(case.now, case.goal)
@@ -283,7 +305,8 @@ def hold_promises(trial: Trial, rng: Random, number: int, n: int) -> None:
     """Holds the library's lists and its deadlock test to the breadth-first search and the definitions."""
     for _ in range(number):
         now, goal = near_or_far(rng, n)
-        keeps(trial, promises.searched(now, goal), by_all(now, goal))
+        cases = [*by_all(now, goal), *by_panel(planning(rng.choice(METHODS), now, goal))]
+        keeps(trial, promises.searched(now, goal), cases)
 
 
 # ---- lengths
@@ -356,7 +379,7 @@ def measured_randoms(trial: Trial, rng: Random, number: int, sizes: tuple[int, i
 
 
 def as_without(trial: Trial, rng: Random, number: int, sizes: tuple[int, int]) -> None:
-    """Equal lengths, and any lengths that the options do not name, are answered as none are."""
+    """Equal lengths, any lengths that the options do not name, and any other options are answered as none are."""
     for _ in range(number):
         now, goal = near_or_far(rng, rng.randint(*sizes))
         right = plan_of(trial, now, goal, rng.choice(METHODS))
@@ -365,10 +388,11 @@ def as_without(trial: Trial, rng: Random, number: int, sizes: tuple[int, int]) -
         for case in cases:
             without, any_of = trial.compare(case), some_lengths(rng, rng.randint(0, len(now) + 1))
             equal = measured([case], [rng.randint(0, TOP)] * len(case.now))
-            unnamed = measured([case], any_of, rng.randint(0, TOP) & ~LENGTHS)
+            named = LENGTHS | PANEL if case.operation in PLANNING else LENGTHS
+            unnamed = measured([case], any_of, rng.randint(0, TOP) & ~named)
             for other in (*equal, *unnamed):
                 got = trial.compare(other)
-                trial.count(got == without, other, lambda: f"{got} where without lengths it is {without}")
+                trial.count(got == without, other, lambda: f"{told(got)} where without lengths it is {told(without)}")
 
 
 def hold_measured_promises(trial: Trial, rng: Random, number: int, n: int) -> None:
@@ -379,7 +403,8 @@ def hold_measured_promises(trial: Trial, rng: Random, number: int, n: int) -> No
         now, goal = sheets.fitting(rng, lengths), sheets.fitting(rng, lengths)
         right = plan_of(trial, now, goal, rng.choice(METHODS))
         replays = (replaying(now, goal, lifts) for lifts in altered_lists(rng, now, right) if len(lifts) % 2 == 0)
-        keeps(trial, promises.searched(now, goal, lengths), measured([*by_all(now, goal), *replays], lengths))
+        cases = [*measured([*by_all(now, goal), *replays], lengths)]
+        keeps(trial, promises.searched(now, goal, lengths), [*cases, *by_panel(rng.choice(cases[: len(METHODS)]))])
 
 
 def measured_large(trial: Trial, rng: Random) -> Iterator[Case]:
@@ -405,6 +430,125 @@ def measured_hostile() -> Iterator[Case]:
             yield from measured(operations((), ()), lengths, options)
             yield from measured(operations((0, 1), (2, 0), (2, 0, 1, 2)), lengths, options)
             yield from measured(operations((0,), ()), lengths, options)
+
+
+# ---- the panel's limit
+
+# What planning answers before question 3, by the number of slabs: the yard office's entry and the panel's; 0 where it
+# asks on.
+LIMITS = {0: (0, 0), 599: (0, 0), 600: (0, 0), 601: (0, 19), 4000: (0, 19), 4001: (2, 2)}
+
+
+class Stated(NamedTuple):
+    """A sheet and the space lent, with what planning answers by each method where it asks on."""
+
+    now: Yard
+    goal: Yard
+    lengths: Lengths
+    space: int
+    answers: list[Answer]
+
+    def by(self, method: int) -> Case:
+        """The case of a method."""
+        case = planning(method, self.now, self.goal, self.space)
+        return case if self.lengths is None else next(measured([case], self.lengths))
+
+
+def refused(now: Yard, goal: Yard, lengths: Lengths, number: int, place: int, short: int = 0) -> Stated:
+    """A sheet that is refused by every method, with a space that is so much too short."""
+    return Stated(now, goal, lengths, plan_space(len(now)) - short, [Answer((number, place, 0, 0), [])] * len(METHODS))
+
+
+def bad_yards(n: int) -> list[tuple[int, int, Yard]]:
+    """Lists of three entries and more that are no arrangements: how many questions get a yes, and the no's place."""
+    ground = [0] * n
+    return [
+        (0, 1, [n + 1, *ground[1:]]),
+        (0, n, [*ground[1:], TOP]),
+        (1, 2, [n, n, *ground[2:]]),
+        (1, n, [2, *ground[2:], 2]),
+        (2, 1, [1, *ground[1:]]),
+        (2, n - 1, [*range(n - 2), n, n - 1]),
+    ]
+
+
+def refused_sheets(n: int) -> Iterator[Stated]:
+    """Sheets of three slabs and more with each refusal from 3 on, at first and last places, others behind it."""
+    ground, tower, equal = [0] * n, sheets.tower(n), [300] * n
+    for goal in ([], ground[1:], [*ground, 0], [0] * LONG):
+        yield refused(tower, goal, None, 3, 0)
+        yield refused([TOP] * n, goal, equal[1:], 3, 0, short=1)
+    for after, place, bad in bad_yards(n):
+        for lengths in (None, equal, equal[1:]):
+            yield refused(bad, [TOP] * n, lengths, 4 + after, place)
+            yield refused(tower, bad, lengths, 7 + after, place, short=1)
+    for lengths in ([], [*range(n - 1)], [*range(n + 1)], [0] * LONG):
+        yield refused(tower, tower, lengths, 16, 0, short=1)
+    for lengths, place in (([*range(n)], 2), ([*ground[1:], 1], n)):
+        yield refused(tower, tower, lengths, 17, place)
+        yield refused(ground, tower, lengths, 18, place, short=1)
+    for lengths in (None, equal):
+        yield refused(ground, tower, lengths, 10, 0, short=1)
+        yield refused(ground, ground, lengths, 10, 0, short=plan_space(n))
+
+
+def planned_sheets(n: int) -> Iterator[Stated]:
+    """Sheets of two slabs and more with their lists in closed form, without lengths, with equal and falling ones."""
+    ground, tower, built = [0] * n, sheets.tower(n), [(slab, slab - 1) for slab in range(2, n + 1)]
+    for make in (sheets.turned, sheets.ring, *[sheets.exchanged] * (n % 4 == 0)):
+        known = make(n)
+        answers = [Answer((0, 0, len(pairs), known.misplaced()), pairs) for pairs in map(known.pairs, METHODS)]
+        for lengths in (None, [TOP] * n):
+            yield Stated(known.now, known.goal, lengths, plan_space(n), answers)
+    for lengths in (None, [*range(n, 0, -1)]):
+        yield Stated(ground, tower, lengths, plan_space(n), [Answer((0, 0, n - 1, n - 1), built)] * len(METHODS))
+        yield Stated(tower, tower, lengths, plan_space(n) + 9, [Answer((0, 0, 0, 0), [])] * len(METHODS))
+
+
+def no_slabs() -> Iterator[Stated]:
+    """Sheets of no slabs."""
+    for lengths, space in itertools.product((None, []), (0, 9)):
+        yield Stated([], [], lengths, space, [Answer((0, 0, 0, 0), [])] * len(METHODS))
+    yield refused([], [0], None, 3, 0)
+    yield refused([], [0] * LONG, [], 3, 0)
+    yield refused([], [], [0], 16, 0)
+
+
+def hold_limit(trial: Trial, n: int) -> None:
+    """Holds both entries, the panel's in both ways, to what the documents state of n slabs, by every kind of method.
+
+    And the reading, which answers questions 1 to 3 and 19 soon of any sheet.
+    """
+    office, panel = LIMITS[n]
+    for sheet in [*refused_sheets(n), *planned_sheets(n)] if n else no_slabs():
+        for method in (0, *METHODS, 4, TOP):
+            case = sheet.by(method)
+            for one, first in ((case, office), *((other, panel) for other in by_panel(case))):
+                number = first if method in METHODS else 1
+                stated = Answer((number, 0, 0, 0), []) if number else sheet.answers[method - 1]
+                hold(trial, one, stated)
+                if stated.numbers[0] in (1, 2, 3, 19):
+                    trial.count(read(one) == stated, one, lambda: f"stated {stated}; reading {read(one)}")
+        not_looked_at(trial, sheet)
+
+
+def not_looked_at(trial: Trial, sheet: Stated) -> None:
+    """The panel's bit changes nothing for check, the deadlock test and replay."""
+    now, goal, lifts = sheet.now, sheet.goal, flat(sheet.answers[0].pairs) or [1, 0]
+    options = 0 if sheet.lengths is None else LENGTHS
+    others = checking(now, goal), testing(now, goal), replaying(now, goal, lifts)
+    for case in measured(others, sheet.lengths or (), options):
+        without, other = trial.compare(case), case._replace(options=options | PANEL)
+        got = trial.compare(other)
+        trial.count(got == without, other, lambda: f"{told(got)} where without the panel's bit it is {told(without)}")
+
+
+def hold_limits(trial: Trial, rng: Random) -> None:
+    """Holds both entries at every limit, and compares them on random sheets about the panel's."""
+    for n in LIMITS:
+        hold_limit(trial, n)
+    trial.run(randoms(trial, rng, 8, (MOST_PANEL - 1, MOST_PANEL + 1)))
+    trial.run(measured_randoms(trial, rng, 4, (MOST_PANEL - 1, MOST_PANEL + 1)))
 
 
 def large(trial: Trial, rng: Random) -> Iterator[Case]:
@@ -479,17 +623,16 @@ def hold(trial: Trial, case: Case, stated: Answer) -> None:
     """Holds the outcome of a case to a stated answer."""
     got = trial.compare(case)
     expected = Outcome.of(stated, case.space)
-    why = got if isinstance(got, str) else told(got)
-    trial.count(got == expected, case, lambda: f"stated {told(expected)}; library {why}")
+    trial.count(got == expected, case, lambda: f"stated {told(expected)}; library {told(got)}")
 
 
 def stated_check(case: Case, stated: Answer) -> Answer | None:
-    """What an answer states of `check`: every operation puts its questions, and only 1 comes before them."""
-    fields = dict(zip(FIELDS[case.operation], stated.numbers))
-    number = fields["refusal"]
-    if case.operation == "check" or number == 1:
+    """What an answer states of `check`: every operation puts its questions, and 1 and 19 are not among them."""
+    named = dict(zip(fields(case), stated.numbers))
+    number = named["refusal"]
+    if case.operation == "check" or number in (1, 19):
         return None
-    return Answer((number, fields["place"]) if number in (*range(2, 10), 16, 17, 18) else (0, 0), [])
+    return Answer((number, named["place"]) if number in (*range(2, 10), 16, 17, 18) else (0, 0), [])
 
 
 def given(trial: Trial, lines: Iterable[str]) -> None:
@@ -501,8 +644,7 @@ def given(trial: Trial, lines: Iterable[str]) -> None:
         wanted, _, after = text.partition("=>")
         case = case_of(wanted)
         if not after:
-            got = trial.compare(case)
-            print(got if isinstance(got, str) else told(got))
+            print(told(trial.compare(case)))
             continue
         front, _, pairs = after.partition("|")
         numbers = tuple(numbers_of(front.strip().replace(UNSTATED, listed(read(case).numbers[-1:]))))
@@ -543,6 +685,7 @@ def tests(trial: Trial, seed: int) -> None:
         ("lengths, promises, 5 slabs", lambda rng: hold_measured_promises(trial, rng, 300, 5)),
         ("lengths, hostile", lambda rng: trial.run(measured_hostile())),
         (f"lengths, 100 to {MOST:,} slabs", lambda rng: trial.run(measured_large(trial, rng))),
+        ("both entries at their limits", lambda rng: hold_limits(trial, rng)),
         ("hostile", lambda rng: trial.run(hostile(rng))),
         ("long lists", lambda rng: trial.run(long_lists(rng))),
         (f"100 to {MOST:,} slabs", lambda rng: trial.run(large(trial, rng))),

@@ -28,7 +28,8 @@ from compiled import INCLUDE, LIBRARY, ROOT, TARGET, Count, tried
 
 sys.path.append(str(ROOT / "tools"))
 import rules  # noqa: E402
-from topjeska import FIELDS, LENGTHS, OF_TRAINING, ON_SHEETS, WITH_OPTIONS, Generator, answer_of  # noqa: E402
+from topjeska import FIELDS, LENGTHS, OF_PANEL, OF_TRAINING, ON_SHEETS, PANEL, WITH_OPTIONS  # noqa: E402
+from topjeska import Generator, answer_of  # noqa: E402
 
 HEADER = INCLUDE / "topjeska.h"
 EXPORTS = ROOT / "crates" / "topjeska" / "src" / "lib.rt"
@@ -176,6 +177,7 @@ METHOD, OPTIONS = ("method", "u16"), ("options", "u16")
 TAKEN: dict[str, tuple[list[Named], list[Named]]] = {
     "check": ([], SHEET),
     "plan": ([METHOD], [*SHEET, SPACE]),
+    "plan_panel": ([METHOD], [*SHEET, SPACE]),
     "deadlock": ([], [*SHEET, SPACE]),
     "replay": ([], [*SHEET, LIFTS]),
     "check_with": ([OPTIONS], MEASURED),
@@ -194,9 +196,10 @@ def expected(operation: str) -> list[Named]:
 
 
 STRUCTS = {**FIELDS, "generator": [name for name, _ in Generator._fields_]}
+OPERATIONS = ON_SHEETS | OF_PANEL | WITH_OPTIONS | OF_TRAINING
 ASSUMED = Interface(
     {struct: [(name, "u64") for name in names] for struct, names in STRUCTS.items()},
-    {operation: (answer_of(operation), expected(operation)) for operation in ON_SHEETS | WITH_OPTIONS | OF_TRAINING},
+    {operation: (answer_of(operation), expected(operation)) for operation in OPERATIONS},
     {"NO_VERDICT": Constant(reading.NO_VERDICT, "")},
 )
 
@@ -254,9 +257,11 @@ def judged(verdict: rules.Verdict) -> str:
 # The constants whose name says all, and the words of the others by their numbers.
 NAMED = {
     "MOST_SLABS": rules.MOST,
+    "MOST_PANEL": rules.MOST_PANEL,
     "MOST_TRAINED": rules.MOST_TRAINED,
     "NO_VERDICT": rules.NO_VERDICT,
     "LENGTHS": LENGTHS,
+    "PANEL": PANEL,
     "PLAN_SPACE": reading.plan_space(1),
     "DEADLOCK_SPACE": reading.deadlock_space(1),
     **{f"METHOD_{name}": number for number, name in rules.METHODS.items()},
@@ -312,6 +317,10 @@ def constants_wrong() -> Iterator[tuple[str, list[str]]]:
 # What callers must be told, however both files put the rest.
 SIZES = {0: "no slab", 3: "three", rules.MOST_TRAINED: str(rules.MOST_TRAINED)}
 COUNTS = [f"{reading.ways(n, 0):,} for {words}" for n, words in SIZES.items()]
+ROOMS = [
+    f"at most {reading.plan_space(rules.MOST):,} by the yard office's",
+    f"{reading.plan_space(rules.MOST_PANEL):,} by the panel's",
+]
 TOLD = {
     "opening": [
         "entry i - 1 says what slab i rests on, 0 for the ground",
@@ -320,9 +329,13 @@ TOLD = {
         "a lift onto a shorter one is not legal; slabs of equal lengths may rest on each other",
         "the ground takes any",
     ],
+    "constant most_slabs": ["the limit of topjeska_plan, the yard office's entry"],
+    "constant most_panel": ["the limit of topjeska_plan_panel, the panel's entry"],
     "constant lengths": ["without this bit the lengths are not looked at"],
-    "constant plan_space": ["the numbers of lent space"],
+    "constant panel": ["planning alone looks at this bit"],
+    "constant plan_space": ["the numbers of lent space", *ROOMS],
     "constant deadlock_space": ["the numbers of lent space"],
+    "constant stack_bytes": [f"as long for a few slabs as for {rules.MOST:,}, by the panel's entry too"],
     "struct plan": [
         "the count of slabs that are misplaced at the start",
         "no list that arrives has fewer lifts than that",
@@ -333,10 +346,17 @@ TOLD = {
         "what lies behind the pairs keeps what it held",
         "one more for each of these that is off the ground both now and in the goal",
         "for the same sheet gn1 and gn2 write no more than us",
+        "the yard office's entry, which takes at most most_slabs slabs",
+    ],
+    "function plan_panel": [
+        "the panel in the crane cabin, which takes at most most_panel slabs",
+        "refusal_panel is asked directly after refusal_too_many",
+        "both entries give equal answers and leave equal space",
     ],
     "function deadlock": ["as pairs: the slab, and the slab through which the next one is in its way"],
     "function check_with": ["with lengths 16, 17 and 18"],
     "function plan_with": [
+        "with panel as topjeska_plan_panel",
         "a sheet that is accepted with lengths has the same list with them and without",
         "compares it with lists that are legal with lengths",
     ],
@@ -410,7 +430,7 @@ def table() -> dict[str, int]:
 def mistabled(said: str) -> list[str]:
     """The rows of the header's table of stacks that are not near what stack.c has measured."""
     measured = dict(re.findall(r"^stack of (.*): (\d+) bytes$", said, re.MULTILINE))
-    if table().keys() != measured.keys() or len(measured) != len(FIELDS):
+    if table().keys() != measured.keys() or len(measured) != len(FIELDS) + len(OF_PANEL):
         return [f"rows {sorted(table())}, measured {sorted(measured)}"]
     rows = [(name, kib, int(measured[name]) / 1024) for name, kib in table().items()]
     far = [(name, kib, used) for name, kib, used in rows if abs(used - kib) > min(NEAR, kib / 2)]
@@ -467,9 +487,9 @@ def reworded(path: Path) -> Iterator[tuple[str, str]]:
         yield f"{path.name}: {of}", text[:start] + re.sub(r"\w+", "Otherwise", text[start:end], count=1) + text[end:]
 
 
-# A number that no constant has, and without the bit of an option; the constants that no call of fields.c takes or
+# A number that no constant has, and without the bits of the options; the constants that no call of fields.c takes or
 # answers.
-OTHER = "78"
+OTHER = "76"
 UNCALLED = {"REFUSAL_RECORD", "REFUSAL_STALL", "STACK_BYTES", "VERSION_MAJOR", "VERSION_MINOR", "VERSION_PATCH"}
 
 

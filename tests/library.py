@@ -9,10 +9,11 @@ from collections.abc import Sequence
 from pathlib import Path
 from typing import NamedTuple
 
-from case import SPACED, Answer, Case, flat
+from case import PLANNING, SPACED, Answer, Case, flat
 
 sys.path.append(str(Path(__file__).resolve().parent.parent / "tools"))
-from topjeska import FIELDS, OF_TRAINING, ON_SHEETS, WITH_OPTIONS, current, functions, shared_object  # noqa: E402
+from topjeska import FIELDS, OF_PANEL, OF_TRAINING, ON_SHEETS, WITH_OPTIONS  # noqa: E402
+from topjeska import answer_of, current, functions, shared_object  # noqa: E402
 
 
 class Outcome(NamedTuple):
@@ -31,9 +32,13 @@ class Fault(Exception):
     """A call altered what it may only read, or wrote beside its space."""
 
 
+UNWRITTEN = array("H", range(0x8000, 0x10000))
+
+
 def unwritten(length: int) -> array:
     """A space as it is lent: numbers that no operation writes, each unlike its neighbours."""
-    return array("H", (0x8000 | i & 0x7FFF for i in range(length)))
+    times, rest = divmod(length, len(UNWRITTEN))
+    return UNWRITTEN * times + UNWRITTEN[:rest]
 
 
 def written(front: Sequence[int], length: int) -> array:
@@ -64,12 +69,23 @@ class Space:
         return self.numbers[len(GUARD) : end]
 
 
+def function(case: Case) -> str:
+    """The name of the function that a case calls; the panel's has none with options."""
+    name = "plan_panel" if case.operation == "panel" else case.operation
+    return name if case.options is None else f"{name}_with"
+
+
+def fields(case: Case) -> tuple[str, ...]:
+    """The names of an answer's numbers."""
+    return FIELDS[answer_of(function(case))]
+
+
 class Library:
     """The operations on a sheet of a shared object."""
 
     def __init__(self, path: Path, prefix: str) -> None:
         """Loads the shared object; every name begins with the prefix."""
-        self.functions = functions(path, prefix, ON_SHEETS | WITH_OPTIONS)
+        self.functions = functions(path, prefix, ON_SHEETS | OF_PANEL | WITH_OPTIONS)
 
     def run(self, case: Case) -> Outcome:
         """Makes the call, with a guard on both sides of the space and behind each list."""
@@ -77,15 +93,15 @@ class Library:
         read = [case.now, case.goal, *([] if bare else [case.lengths]), *([case.lifts] * (operation == "replay"))]
         lists = [array("H", numbers) + GUARD for numbers in read]
         before = [bytes(numbers) for numbers in lists]
-        words = [*([] if bare else [case.options]), *([case.method] * (operation == "plan"))]
+        words = [*([] if bare else [case.options]), *([case.method] * (operation in PLANNING))]
         for numbers in lists:
             words += [numbers.buffer_info()[0], len(numbers) - len(GUARD)]
         if operation in SPACED:
             words += space.lent()
-        answer = self.functions[operation if bare else f"{operation}_with"](*words)
+        answer = self.functions[function(case)](*words)
         if before != [bytes(numbers) for numbers in lists]:
             raise Fault("it altered a list that it may only read")
-        return Outcome(tuple(getattr(answer, field) for field in FIELDS[operation]), space.held())
+        return Outcome(tuple(getattr(answer, field) for field in fields(case)), space.held())
 
 
 # What stands before and behind a generator.

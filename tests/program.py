@@ -22,7 +22,7 @@ from pathlib import Path
 import reading
 import sheets
 from case import measured, planning, read
-from reading import METHODS, MOST, TOP
+from reading import METHODS, MOST, MOST_PANEL, TOP
 from records import ENTRY, EXAMPLE, HEAD, HEADS, KEPT, LIFT, LONGEST_ANSWER, LONGEST_INPUT
 from records import asked, head, packed, planned, refused, unpacked
 
@@ -170,14 +170,18 @@ def full() -> Iterator[bytes]:
 
 
 def plans() -> Iterator[tuple[bytes, bytes]]:
-    """Full yards with their plans in closed form, also with equal lengths: the longest input, and the longest plans."""
+    """Full yards with their plans in closed form, also with equal lengths: the longest input, and the longest plans.
+
+    And a pile to be built of as many slabs as the panel takes, and of one more: the program is the yard office's.
+    """
     for known in sheets.full_yards():
         for method, lengths in itertools.product(METHODS, (None, [TOP] * len(known.now))):
             told = planned(known.misplaced(), known.pairs(method))
             yield asked(method, known.now, known.goal, lengths), told
-    flat, tower = [0] * MOST, sheets.tower(MOST)
-    falling = [*range(MOST, 0, -1)]
-    yield asked(2, flat, tower, falling), planned(MOST - 1, [(slab, slab - 1) for slab in range(2, MOST + 1)])
+    for n in (MOST_PANEL, MOST_PANEL + 1, MOST):
+        flat, tower, falling = [0] * n, sheets.tower(n), [*range(n, 0, -1)]
+        told = planned(n - 1, [(slab, slab - 1) for slab in range(2, n + 1)])
+        yield from ((asked(2, flat, tower, lengths), told) for lengths in (None, falling))
 
 
 def sizes() -> Iterator[tuple[bool, str]]:

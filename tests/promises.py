@@ -8,7 +8,7 @@ from collections.abc import Mapping, Sequence
 from typing import NamedTuple
 
 import reading
-from case import Case, paired
+from case import PLANNING, Case, paired
 from reading import Lengths, Pair, Yard
 
 
@@ -86,7 +86,7 @@ def unkept_by_verdict(sheet: Searched, lifts: Sequence[int], numbers: Sequence[i
 
 def unkept(sheet: Searched, case: Case, numbers: Sequence[int], pairs: Sequence[Pair]) -> list[str]:
     """What the numbers and pairs of a case of planning, of the deadlock test or of replay break."""
-    if case.operation == "plan":
+    if case.operation in PLANNING:
         return unkept_by_list(sheet, case.method, pairs) + unkept_by_count(sheet, numbers[3])
     if case.operation == "deadlock":
         return unkept_by_test(sheet, pairs)

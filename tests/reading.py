@@ -1,8 +1,8 @@
 """Document 01 read literally: the questions, the three methods, the deadlock test and replay.
 
-Of document 02 training, lengths, and how many lifts method 1 takes. An arrangement is a list of n numbers: entry i - 1
-says what slab i rests on, 0 for the ground. Lengths are None where a sheet has none, which is not the same as a list of
-none.
+Of document 02 training, lengths, how many lifts method 1 takes, and the panel's entry. An arrangement is a list of n
+numbers: entry i - 1 says what slab i rests on, 0 for the ground. Lengths are None where a sheet has none, which is not
+the same as a list of none.
 Each function follows its sentence and none is meant to be fast. `shortest` and `deadlocked`
 decide by search what the document only defines.
 """
@@ -16,14 +16,17 @@ Yard = Sequence[int]
 Pair = tuple[int, int]
 Lengths = Sequence[int] | None
 
-# The most slabs of a sheet and of a training sheet, the highest 16-bit number, the numbers of the methods, what a
-# refused replay has in place of a verdict, and the bit of options that says that a sheet has lengths.
+# The most slabs of a sheet, by the panel's entry and of a training sheet, the highest 16-bit number, the numbers of the
+# methods, what a refused replay has in place of a verdict, and the bits of options: that a sheet has lengths, and that
+# planning is the panel's.
 MOST = 4000
+MOST_PANEL = 600
 MOST_TRAINED = 16
 TOP = 65535
 METHODS = (1, 2, 3)
 NO_VERDICT = 65535
 LENGTHS = 1
+PANEL = 2
 
 # What the verdicts of replay say.
 VERDICTS = {
@@ -148,10 +151,15 @@ def arrangement_fault(yard: Yard) -> tuple[int, int]:
     return 0, 0
 
 
-def check(now: Yard, goal: Yard, lengths: Lengths = None) -> tuple[int, int]:
-    """Questions 2 to 9, with lengths 16 to 18: the number and the place of the first "no"; 0, 0 where all get a yes."""
+def check(now: Yard, goal: Yard, lengths: Lengths = None, most: int = MOST) -> tuple[int, int]:
+    """Questions 2 to 9, with lengths 16 to 18: the number and the place of the first "no"; 0, 0 where all get a yes.
+
+    19 is for more than an entry takes, directly after 2; the yard office takes as many as there may be.
+    """
     if len(now) > MOST:
         return 2, 0
+    if len(now) > most:
+        return 19, 0
     if len(goal) != len(now):
         return 3, 0
     for yard, before in ((now, 3), (goal, 6)):
@@ -235,12 +243,12 @@ def deadlock_space(n: int) -> int:
 
 
 def plan(
-    method: int, now: Yard, goal: Yard, space_len: int, lengths: Lengths = None
+    method: int, now: Yard, goal: Yard, space_len: int, lengths: Lengths = None, most: int = MOST
 ) -> tuple[int, int, int, int, list[Pair]]:
-    """Planning: number, place, lift count, misplaced slabs at the start and the pairs written."""
+    """Planning by an entry's limit: number, place, lift count, misplaced slabs at the start and the pairs written."""
     if method not in METHODS:
         return 1, 0, 0, 0, []
-    number, place = check(now, goal, lengths)
+    number, place = check(now, goal, lengths, most)
     if number != 0:
         return number, place, 0, 0, []
     if space_len < plan_space(len(now)):

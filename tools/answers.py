@@ -5,7 +5,7 @@ import textwrap
 from typing import Any
 
 from lines import Lift, Sheet, all_shown, counted
-from rules import METHODS, MOST, QUESTIONS, TRAINING
+from rules import METHODS, MOST, MOST_PANEL, QUESTIONS, TRAINING
 from steps import Pair, Step, deadlocked, length_in_words, lift_in_words, links, listed, long, reason, steps, told
 from steps import verdict_in_words
 from topjeska import Generator, Library
@@ -36,10 +36,10 @@ def step_of(method: int, step: Step) -> Answer:
     return {**told_of, "loop": step.loop, "reason": reason(method, step)}
 
 
-def plan(library: Library, method: int, sheet: Sheet) -> Answer:
-    """Planning: the list with a reason for each lift, and how short it is."""
+def plan(library: Library, method: int, sheet: Sheet, panel: bool = False) -> Answer:
+    """Planning: the list with a reason for each lift, and how short it is; a list is the same by either entry."""
     begun = {**asked("plan", sheet), "method": method}
-    made = library.plan(method, sheet)
+    made = library.plan(method, sheet, panel)
     if made.refusal:
         return refused(begun, sheet, made.refusal, made.place)
     about, lifts = told(library, sheet), made.lifts()
@@ -165,8 +165,8 @@ def about_place(method: int, sheet: Sheet, number: int, place: int) -> str:
     n = len(sheet.now)
     if number == 1:
         return f"the method is {method}; the methods are {', '.join(f'{k} ({name})' for k, name in METHODS.items())}"
-    if number == 2:
-        return f"the now list has {n:,} entries, {n - MOST:,} too many"
+    if number in (2, 19):
+        return f"the now list has {n:,} entries, {n - (MOST if number == 2 else MOST_PANEL):,} too many"
     if number == 16:
         return f"{counted(len(sheet.lengths or []), 'length', 'lengths')} for {counted(n, 'slab', 'slabs')}"
     if not (number in (*range(4, 10), 17, 18) and 1 <= place <= n):

@@ -5,9 +5,10 @@ The tools and the fault card take their words from here; the header and the wrap
 
 from typing import NamedTuple
 
-# The most slabs of a sheet and of a training sheet, the highest 16-bit number, and what a refused replay has in place
-# of a verdict.
+# The most slabs of a sheet, of one that the panel plans, and of a training sheet, the highest 16-bit number, and what a
+# refused replay has in place of a verdict.
 MOST = 4000
+MOST_PANEL = 600
 MOST_TRAINED = 16
 TOP = 65535
 NO_VERDICT = 65535
@@ -32,13 +33,14 @@ class Question(NamedTuple):
 
 ALL = "all"
 WITH_LENGTHS = "with lengths"
+BY_PANEL = "panel"
 SLAB = "the lowest slab with a bad entry"
 SHARED = "the lowest slab that rests where a lower-numbered slab rests, the ground excepted"
 FLOATING = "the lowest slab that does not"
 OVERHANGS = "the lowest slab that overhangs"
 
 # Document 01, "Questions put to a sheet, in order"; 7 to 9 are "the same three for the goal". 16 to 18 are those of
-# document 02, Job 3, and are asked after 9.
+# document 02, Job 3, and are asked after 9; 19 is that of Job 5, and is asked directly after 2.
 QUESTIONS = {
     1: Question("planning", "Is the method 1, 2 or 3?", ""),
     2: Question(ALL, f"Has the now list at most {MOST:,} entries?", ""),
@@ -60,6 +62,7 @@ QUESTIONS = {
     16: Question(WITH_LENGTHS, "Are there as many lengths as slabs?", ""),
     17: Question(WITH_LENGTHS, "Is each slab at most as long as the slab it rests on now?", OVERHANGS),
     18: Question(WITH_LENGTHS, "Is each slab at most as long as the slab it rests on in the goal?", OVERHANGS),
+    19: Question(BY_PANEL, f"Has the now list at most {MOST_PANEL} entries?", ""),
 }
 
 # What training asks before 10; it is not put to sheets.

@@ -22,8 +22,9 @@ ROOT = Path(__file__).resolve().parent.parent
 USUAL = ROOT / "target" / "staticlib"
 MADE = ROOT / "target" / "tools"
 
-# The bit of options that says that a sheet has lengths.
+# The bits of options: that a sheet has lengths, and that planning is the panel's.
 LENGTHS = 1
+PANEL = 2
 
 # The fields of each answer, in the header's order.
 FIELDS = {
@@ -34,8 +35,8 @@ FIELDS = {
     "training": ("refusal", "place"),
 }
 
-# What the operations on a sheet take, these with options and lengths, and those of training, in the header's order; a
-# list is lent as a pointer and a length.
+# What the operations on a sheet take, that of the panel, these with options and lengths, and those of training, in the
+# header's order; a list is lent as a pointer and a length.
 Takes = dict[str, list[Any]]
 LENT = [ctypes.c_void_p, ctypes.c_size_t]
 ON_SHEETS: Takes = {
@@ -44,6 +45,7 @@ ON_SHEETS: Takes = {
     "deadlock": LENT * 3,
     "replay": LENT * 3,
 }
+OF_PANEL: Takes = {"plan_panel": ON_SHEETS["plan"]}
 WITH_OPTIONS: Takes = {
     "check_with": [ctypes.c_uint16, *LENT * 3],
     "plan_with": [ctypes.c_uint16, ctypes.c_uint16, *LENT * 4],
@@ -198,9 +200,9 @@ class Lent(NamedTuple):
     lengths: array
 
     @classmethod
-    def of(cls, sheet: Sheet) -> "Lent":
-        """The lists of a sheet."""
-        options = 0 if sheet.lengths is None else LENGTHS
+    def of(cls, sheet: Sheet, options: int = 0) -> "Lent":
+        """The lists of a sheet, with options beside that of its lengths."""
+        options |= 0 if sheet.lengths is None else LENGTHS
         return cls(options, *(array("H", numbers) for numbers in (sheet.now, sheet.goal, sheet.lengths or [])))
 
     def lists(self) -> tuple[int, ...]:
@@ -224,9 +226,9 @@ class Library:
         answer = self.called["check_with"](given.options, *given.lists())
         return Check(answer.refusal, answer.place)
 
-    def plan(self, method: int, sheet: Sheet) -> Plan:
-        """The list of a method."""
-        return self.plan_of(method, Lent.of(sheet))
+    def plan(self, method: int, sheet: Sheet, panel: bool = False) -> Plan:
+        """The list of a method, by the panel's entry or the yard office's."""
+        return self.plan_of(method, Lent.of(sheet, PANEL if panel else 0))
 
     def plan_of(self, method: int, given: Lent) -> Plan:
         """The list of a method for lists that are lent as they are."""

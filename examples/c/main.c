@@ -1,5 +1,5 @@
 /* Sheets of document 01 through the library: their lifts, their deadlocks, a replay and a refusal;
- * then a sheet with lengths, and a training sheet. */
+ * then a sheet with lengths, what the panel takes, and a training sheet. */
 #include <inttypes.h>
 #include <stdio.h>
 #include <stdlib.h>
@@ -94,6 +94,25 @@ static void show_lengths(const sheet *s4) {
            checked.refusal, checked.place);
 }
 
+/* Prints what the panel's entry says of a pile that shall stand the other way up: of the most slabs
+ * that it takes, and of one more. */
+static void show_panel(void) {
+    enum { OVER = TOPJESKA_MOST_PANEL + 1 };
+    static uint16_t now[OVER], goal[OVER], lifts[TOPJESKA_PLAN_SPACE(OVER)];
+    for (uint16_t n = TOPJESKA_MOST_PANEL; n <= OVER; n++) {
+        for (uint16_t slab = 1; slab <= n; slab++) {
+            now[slab - 1] = slab - 1;
+            goal[slab - 1] = slab == n ? 0 : slab + 1;
+        }
+        topjeska_plan_answer plan = topjeska_plan_panel(TOPJESKA_METHOD_GN1, now, n, goal, n, lifts,
+                                                        TOPJESKA_PLAN_SPACE(n));
+        if (plan.refusal == 0)
+            printf("%u slabs by the panel: %" PRIu64 " lifts\n", n, plan.count);
+        else
+            printf("%u slabs by the panel: refused by question %" PRIu64 "\n", n, plan.refusal);
+    }
+}
+
 /* Draws an arrangement of a training sheet, and prints it. */
 static void draw(topjeska_generator *generator, const sheet *s, const char *which, uint16_t *out) {
     topjeska_training_answer drawn = topjeska_training_draw(generator, s->n, out, s->n);
@@ -123,6 +142,7 @@ int main(void) {
     printf("2 1 5: refused by question %" PRIu64 " at %" PRIu64 "\n", refused.refusal, refused.place);
 
     show_lengths(&sheets[1]);
+    show_panel();
 
     sheet trained = {"seed 7", MOST, {0}, {0}};
     topjeska_generator generator = {7};

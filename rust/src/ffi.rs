@@ -16,13 +16,19 @@
 /// The version of the header, and of this crate.
 pub const VERSION: &str = env!("CARGO_PKG_VERSION");
 
-/// The most slabs of a sheet.
+/// The most slabs of a sheet: the limit of `topjeska_plan`, the yard office's entry to planning, and of
+/// all other functions on sheets but the panel's entry.
 pub const MOST_SLABS: usize = 4000;
+
+/// The most slabs of a sheet at the panel: the limit of `topjeska_plan_panel`, the panel's entry to
+/// planning.
+pub const MOST_PANEL: usize = 600;
 
 /// The most slabs of a training sheet.
 pub const MOST_TRAINED: usize = 16;
 
-/// The numbers of lent space that planning needs for n slabs.
+/// The numbers of lent space that planning needs for n slabs, by both entries alike: at most 16,000 by
+/// the yard office's, and 2,400 by the panel's.
 pub const fn plan_space(n: usize) -> usize {
     4 * n
 }
@@ -33,11 +39,16 @@ pub const fn deadlock_space(n: usize) -> usize {
 }
 
 /// The bytes of stack that every call stays below. No call allocates memory or keeps a pointer: the
-/// working lists lie on the stack, and are as long for a few slabs as for 4,000.
+/// working lists lie on the stack, and are as long for a few slabs as for 4,000, by the panel's entry
+/// too.
 pub const STACK_BYTES: usize = 163840;
 
 /// The sheet has lengths. Without this bit the lengths are not looked at.
 pub const LENGTHS: u16 = 1;
+
+/// Planning is by the panel's entry. Planning alone looks at this bit: check, deadlock test and replay
+/// do not ask 19.
+pub const PANEL: u16 = 2;
 
 /// US: puts down the misplaced clear slabs off the ground, then makes constructive lifts.
 pub const METHOD_US: u16 = 1;
@@ -107,6 +118,9 @@ pub const REFUSAL_NOW_OVERHANG: u64 = 17;
 /// Is each slab at most as long as the slab it rests on in the goal? (with lengths) Place: the
 /// lowest slab that overhangs.
 pub const REFUSAL_GOAL_OVERHANG: u64 = 18;
+
+/// Has the now list at most 600 entries? (panel)
+pub const REFUSAL_PANEL: u64 = 19;
 
 /// Arrives.
 pub const VERDICT_ARRIVES: u64 = 0;
@@ -201,8 +215,21 @@ extern "C" {
     /// destination. The space needs `plan_space` numbers; what lies behind the pairs keeps what it
     /// held. US writes as many lifts as slabs are misplaced, and one more for each of these that is
     /// off the ground both now and in the goal; for the same sheet GN1 and GN2 write no more than US
-    /// (theorem `beside-us`).
+    /// (theorem `beside-us`). This is the yard office's entry, which takes at most `MOST_SLABS` slabs.
     pub fn topjeska_plan(
+        method: u16,
+        now: *const u16,
+        now_len: usize,
+        goal: *const u16,
+        goal_len: usize,
+        space: *mut u16,
+        space_len: usize,
+    ) -> PlanAnswer;
+
+    /// As `topjeska_plan`, by the entry of the panel in the crane cabin, which takes at most
+    /// `MOST_PANEL` slabs: `REFUSAL_PANEL` is asked directly after `REFUSAL_TOO_MANY`. On so many
+    /// slabs or fewer both entries give equal answers and leave equal space (theorem `same-answers`).
+    pub fn topjeska_plan_panel(
         method: u16,
         now: *const u16,
         now_len: usize,
@@ -245,9 +272,9 @@ extern "C" {
         lengths_len: usize,
     ) -> CheckAnswer;
 
-    /// As `topjeska_plan`. A sheet that is accepted with lengths has the same list with them and
-    /// without. With them all that is promised of a list compares it with lists that are legal with
-    /// lengths, and it is legal with lengths itself.
+    /// As `topjeska_plan`, and with `PANEL` as `topjeska_plan_panel`. A sheet that is accepted with
+    /// lengths has the same list with them and without. With them all that is promised of a list
+    /// compares it with lists that are legal with lengths, and it is legal with lengths itself.
     pub fn topjeska_plan_with(
         options: u16,
         method: u16,

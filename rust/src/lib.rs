@@ -1,6 +1,8 @@
 //! Safe functions over libtopjeska.a, in the words of its header. An arrangement is a list that says of each
 //! slab what it rests on: slabs are numbered from 1, and 0 is the ground. A sheet is two, `now` and `goal`, and may
-//! have lengths: [`Sheet`] takes what a sheet has by name, the functions without it take the two.
+//! have lengths: [`Sheet`] takes what a sheet has by name, the functions without it take the two. Planning has two
+//! entries: `plan`, the yard office's, takes at most [`ffi::MOST_SLABS`] slabs, and `plan_panel`, that of the panel in
+//! the crane cabin, [`ffi::MOST_PANEL`].
 
 use std::fmt;
 
@@ -210,12 +212,44 @@ impl<'a> Sheet<'a> {
 
     /// Writes the lifts of a method to the front of the space, which needs `ffi::plan_space(n) / 2` lifts for n slabs.
     pub fn plan<'s>(&self, method: Method, space: &'s mut [Lift]) -> Result<Planned<'s>, Refusal> {
+        self.plan_by(0, method, space)
+    }
+
+    /// The same by the panel's entry, which refuses more than [`ffi::MOST_PANEL`] slabs by [`ffi::REFUSAL_PANEL`]. On
+    /// so many or fewer both entries give equal answers and leave equal space.
+    ///
+    /// ```
+    /// use topjeska::{ffi, Method, Refusal, Sheet};
+    ///
+    /// let (most, over) = ([0; ffi::MOST_PANEL], [0; ffi::MOST_PANEL + 1]);
+    /// let mut space = vec![[0; 2]; ffi::plan_space(ffi::MOST_PANEL + 1) / 2];
+    /// assert_eq!(Sheet::new(&most, &most).plan_panel(Method::Gn1, &mut space)?.lifts, [[0; 2]; 0]);
+    /// let refused = Sheet::new(&over, &over).plan_panel(Method::Gn1, &mut space);
+    /// let (number, place) = (ffi::REFUSAL_PANEL, 0);
+    /// assert_eq!(refused, Err(Refusal { number, place }));
+    /// # Ok::<(), Refusal>(())
+    /// ```
+    pub fn plan_panel<'s>(
+        &self,
+        method: Method,
+        space: &'s mut [Lift],
+    ) -> Result<Planned<'s>, Refusal> {
+        self.plan_by(ffi::PANEL, method, space)
+    }
+
+    /// Planning by an entry: the panel's by its bit of the options, the yard office's by 0.
+    fn plan_by<'s>(
+        &self,
+        entry: u16,
+        method: Method,
+        space: &'s mut [Lift],
+    ) -> Result<Planned<'s>, Refusal> {
         let (options, lengths) = self.options();
         let numbers = space.as_flattened_mut();
         // SAFETY: each pointer is a slice's own, with its length; nothing else uses the space.
         let answer = unsafe {
             ffi::topjeska_plan_with(
-                options,
+                options | entry,
                 method as u16,
                 self.now.as_ptr(),
                 self.now.len(),
@@ -286,8 +320,18 @@ pub fn check(now: &[u16], goal: &[u16]) -> Result<(), Refusal> {
 
 /// The lifts of a method.
 pub fn plan(method: Method, now: &[u16], goal: &[u16]) -> Result<Plan, Refusal> {
+    plan_by(0, method, now, goal)
+}
+
+/// The same by the panel's entry, as [`Sheet::plan_panel`].
+pub fn plan_panel(method: Method, now: &[u16], goal: &[u16]) -> Result<Plan, Refusal> {
+    plan_by(ffi::PANEL, method, now, goal)
+}
+
+/// The lifts of a method by an entry, as [`Sheet::plan_by`].
+fn plan_by(entry: u16, method: Method, now: &[u16], goal: &[u16]) -> Result<Plan, Refusal> {
     let mut lifts = vec![[0; 2]; ffi::plan_space(slabs(now)) / 2];
-    let made = Sheet::new(now, goal).plan(method, &mut lifts)?;
+    let made = Sheet::new(now, goal).plan_by(entry, method, &mut lifts)?;
     let (count, misplaced) = (made.lifts.len(), made.misplaced);
     lifts.truncate(count);
     Ok(Plan { lifts, misplaced })
@@ -589,6 +633,81 @@ mod tests {
         let taken = Verdict::Taken { lift: 2 };
         assert_eq!(with.replay(&[[3, 1], [2, 1]]), Ok(taken));
         assert_eq!(with.replay(&[[1, 3], [1, 2], [1, 0]]), Ok(Verdict::Arrives));
+    }
+
+    /// An answer of planning, its lifts and misplaced slabs counted, and the space that it leaves.
+    type Left = (Result<(usize, u64), Refusal>, Vec<Lift>);
+
+    /// A sheet by the yard office's entry and by the panel's.
+    fn by_both(sheet: Sheet, method: Method) -> [Left; 2] {
+        [Sheet::plan, Sheet::plan_panel].map(|entry| {
+            let mut space = vec![[9; 2]; ffi::plan_space(sheet.now.len()) / 2];
+            let made = entry(&sheet, method, &mut space);
+            (made.map(|made| (made.lifts.len(), made.misplaced)), space)
+        })
+    }
+
+    #[test]
+    fn the_panel_takes_600_slabs() {
+        // Document 02: "On 600 slabs or fewer the two give equal answers. Checks: 19 for more than 600 by the panel's
+        // entry, directly after 2."
+        for n in [600, 601, 4000, 4001] {
+            // A pile that shall stand the other way up, and a list in which slab 300 has an entry too high.
+            let now: Vec<u16> = (0..n).collect();
+            let goal: Vec<u16> = (2..=n).chain([0]).collect();
+            let (mut bad, lengths) = (goal.clone(), vec![250; now.len()]);
+            bad[299] = n + 1;
+            let good = Sheet::new(&now, &goal);
+            let sheets = [
+                (good, 0, 0),
+                (good.lengths(&lengths), 0, 0),
+                (good.lengths(&lengths[1..]), 16, 0),
+                (Sheet::new(&now, &bad), 7, 300),
+                (Sheet::new(&now, &bad).lengths(&lengths), 7, 300),
+                (Sheet::new(&bad, &goal), 4, 300),
+                (Sheet::new(&now, &goal[1..]), 3, 0),
+            ];
+            let refused = |number| (Err(refusal(number, 0)), vec![[9; 2]; 2 * now.len()]);
+            for method in METHODS {
+                // Each slab is lifted once, by method 1 all but the lowest and the highest twice.
+                let twice = if method == Method::Us { n - 2 } else { 0 };
+                for (sheet, number, place) in sheets {
+                    let answer = accepted(number, place).map(|()| ((n + twice).into(), n.into()));
+                    let [office, panel] = by_both(sheet, method);
+                    if n > 4000 {
+                        assert_eq!((office, panel), (refused(2), refused(2)));
+                    } else {
+                        assert_eq!(office.0, answer);
+                        assert_eq!(panel, if n > 600 { refused(19) } else { office });
+                    }
+                }
+                let made = plan_panel(method, &now, &goal);
+                assert_eq!(made.is_ok(), n <= 600);
+                assert_eq!(made == plan(method, &now, &goal), n <= 600 || n > 4000);
+            }
+        }
+    }
+
+    #[test]
+    fn the_method_is_asked_before_the_slabs_by_the_panel() {
+        let list = [0; 4001];
+        for (n, number) in [(600, 0), (601, 19), (4000, 19), (4001, 2)] {
+            for method in 0..=4 {
+                let expected = ffi::PlanAnswer {
+                    refusal: if (1..=3).contains(&method) { number } else { 1 },
+                    place: 0,
+                    count: 0,
+                    misplaced: 0,
+                };
+                let mut space = vec![9; ffi::plan_space(n)];
+                let (lent, len, room) = (list.as_ptr(), space.len(), space.as_mut_ptr());
+                // SAFETY: each pointer is a list's own, with a length that it has.
+                let answer =
+                    unsafe { ffi::topjeska_plan_panel(method, lent, n, lent, n, room, len) };
+                assert_eq!(answer, expected);
+                assert_eq!(space, vec![9; ffi::plan_space(n)]);
+            }
+        }
     }
 
     #[test]

@@ -13,8 +13,8 @@ static const uint16_t *list(const uint16_t *numbers, size_t len) {
 }
 
 /* Whether a call is by the function that takes a sheet, and that sheet's options and how many
- * lengths are lent; the function without takes neither. */
-static int whole;
+ * lengths are lent; the function without takes neither, and may plan by the panel's entry. */
+static int whole, panel;
 static uint16_t options;
 static size_t k;
 
@@ -26,7 +26,7 @@ static topjeska_sheet sheet(size_t n, size_t m) {
 /* The first question that gets a "no" from the lists and a space of some numbers: 3, 16, 10 or
  * none. */
 static uint64_t refused(size_t n, size_t m, size_t len, size_t needed) {
-    int miscounted = whole && options == TOPJESKA_LENGTHS && k != n;
+    int miscounted = whole && (options & TOPJESKA_LENGTHS) != 0 && k != n;
     return n != m ? 3 : miscounted ? 16 : len < needed ? 10 : 0;
 }
 
@@ -41,8 +41,10 @@ static void plans(uint16_t method, size_t n, size_t m, size_t len) {
     uint16_t space[8], *lent = len == 0 ? NULL : space;
     memcpy(space, held, sizeof held);
     topjeska_sheet s = sheet(n, m);
-    topjeska_plan_answer got = whole ? topjeska_sheet_plan(s, method, lent, len)
-                                     : topjeska_plan(method, s.now, n, s.goal, m, lent, len);
+    topjeska_plan_answer got =
+        whole   ? topjeska_sheet_plan(s, method, lent, len)
+        : panel ? topjeska_plan_panel(method, s.now, n, s.goal, m, lent, len)
+                : topjeska_plan(method, s.now, n, s.goal, m, lent, len);
     uint64_t known = 1 <= method && method <= 3;
     uint64_t refusal = known ? refused(n, m, len, 4 * n) : 1;
     uint64_t two = refusal == 0 && n == 2 ? 2 : 0;
@@ -118,9 +120,10 @@ int main(void) {
     draws(1, 1, 10, 1);
     draws(17, 0, 14, 0);
     draws(SIZE_MAX, 1, 14, 1);
-    every_list();
+    for (panel = 0; panel <= 1; panel++)
+        every_list();
     whole = 1;
-    for (options = 0; options <= TOPJESKA_LENGTHS; options++)
+    for (options = 0; options <= (TOPJESKA_LENGTHS | TOPJESKA_PANEL); options++)
         for (k = 0; k <= 2; k += 2)
             every_list();
 

@@ -11,6 +11,10 @@ int main() {
                 topjeska_plan(method, now.data(), now.size(), goal.data(), goal.size(), space.data(),
                               space.size()),
                 0, 0, 0, 0);
+    plan_is("panel's plan",
+            topjeska_plan_panel(2, now.data(), now.size(), goal.data(), goal.size(), space.data(),
+                                space.size()),
+            0, 0, 0, 0);
     deadlock_is("deadlock",
                 topjeska_deadlock(now.data(), now.size(), goal.data(), goal.size(), space.data(),
                                   space.size()),
@@ -27,7 +31,7 @@ int main() {
                 0);
 
     topjeska_sheet sheet = {};
-    for (uint16_t options = 0; options <= TOPJESKA_LENGTHS; options++) {
+    for (uint16_t options = 0; options <= (TOPJESKA_LENGTHS | TOPJESKA_PANEL); options++) {
         sheet.options = options;
         sheet.lengths = lengths.data();
         check_is("check of a sheet", topjeska_sheet_check(sheet), 0, 0);

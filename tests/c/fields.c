@@ -15,6 +15,11 @@ static const uint16_t s4_now[] = {2, 0, 4, 0}, s4_goal[] = {4, 0, 2, 0};
 static const uint16_t six_now[] = {3, 0, 4, 0, 2, 1}, six_goal[] = {2, 0, 1, 0, 4, 5};
 /* "4,000 entries pass question 2, 4,001 do not." All on the ground. */
 static const uint16_t many[TOPJESKA_MOST_SLABS + 1];
+/* "19 for more than 600 by the panel's entry, directly after 2." All on the ground, and room for
+ * the lifts of so many. */
+static const uint16_t few[TOPJESKA_MOST_PANEL + 1];
+static uint16_t room[TOPJESKA_PLAN_SPACE(TOPJESKA_MOST_PANEL + 1)];
+enum { ROOM = sizeof room / sizeof room[0] };
 /* Lengths of S6: those that fit; of a slab 1 that overhangs now and in the goal; of a slab 3 that
  * is too short for slab 2, which rests on it now alone. And of S4, with longer feet. */
 static const uint16_t s6_long[] = {200, 250, 300}, s6_over[] = {300, 250, 300};
@@ -65,6 +70,46 @@ static void plans(void) {
     plan_is("plan of S4 by 2", topjeska_plan(gn1, s4_now, 4, s4_goal, 4, space, 16), 0, 0, 3, 2);
     plan_is("plan of six by 2", topjeska_plan(gn1, six_now, 6, six_goal, 6, space, 24), 0, 0, 6, 4);
     plan_is("plan of six by 3", topjeska_plan(gn2, six_now, 6, six_goal, 6, space, 24), 0, 0, 7, 4);
+}
+
+static void panels(void) {
+    uint16_t space[12] = {0};
+    const uint16_t untouched[12] = {0};
+    const uint16_t gn1 = TOPJESKA_METHOD_GN1;
+    const size_t most = TOPJESKA_MOST_PANEL, all = TOPJESKA_MOST_SLABS;
+    plan_is("panel's plan of a bad now", topjeska_plan_panel(gn1, bad, 3, ground, 3, space, 12),
+            TOPJESKA_REFUSAL_NOW_ENTRY, 3, 0, 0);
+    plan_is("panel's plan of a bad goal", topjeska_plan_panel(gn1, ground, 3, bad, 3, space, 12),
+            TOPJESKA_REFUSAL_GOAL_ENTRY, 3, 0, 0);
+    plan_is("panel's plan in a number less",
+            topjeska_plan_panel(gn1, s6_now, 3, s6_goal, 3, space, TOPJESKA_PLAN_SPACE(3) - 1),
+            TOPJESKA_REFUSAL_SPACE, 0, 0, 0);
+    space_is("space of the panel's refused plans", space, untouched, 12);
+    plan_is("panel's plan of S6",
+            topjeska_plan_panel(gn1, s6_now, 3, s6_goal, 3, space, TOPJESKA_PLAN_SPACE(3)), 0, 0, 3,
+            2);
+    space_is("panel's lifts of S6", space, s6_lifts, 6);
+    space_is("space behind them", space + 6, untouched, 6);
+    plan_is("panel's plan of its most slabs",
+            topjeska_plan_panel(gn1, few, most, few, most, room, ROOM), 0, 0, 0, 0);
+    plan_is("panel's plan of its most slabs and a shorter goal",
+            topjeska_plan_panel(gn1, few, most, few, most - 1, room, ROOM),
+            TOPJESKA_REFUSAL_UNEQUAL, 0, 0, 0);
+    plan_is("panel's plan of one more",
+            topjeska_plan_panel(gn1, few, most + 1, few, most + 1, room, ROOM),
+            TOPJESKA_REFUSAL_PANEL, 0, 0, 0);
+    plan_is("panel's plan of one more and a shorter goal",
+            topjeska_plan_panel(gn1, few, most + 1, few, most, room, ROOM), TOPJESKA_REFUSAL_PANEL,
+            0, 0, 0);
+    plan_is("panel's plan of one more by method 4",
+            topjeska_plan_panel(4, few, most + 1, few, most + 1, room, ROOM),
+            TOPJESKA_REFUSAL_METHOD, 0, 0, 0);
+    plan_is("panel's plan of the most slabs",
+            topjeska_plan_panel(gn1, many, all, many, all, room, ROOM), TOPJESKA_REFUSAL_PANEL, 0,
+            0, 0);
+    plan_is("panel's plan of one more than these",
+            topjeska_plan_panel(gn1, many, all + 1, many, all + 1, room, ROOM),
+            TOPJESKA_REFUSAL_TOO_MANY, 0, 0, 0);
 }
 
 static void deadlocks(void) {
@@ -216,6 +261,40 @@ static void replays_with(void) {
               TOPJESKA_VERDICT_ARRIVES, 0);
 }
 
+/* Options with the bit of the panel alone, with that of lengths too, and with all but these two. */
+enum { PANEL = TOPJESKA_PANEL, BOTH = TOPJESKA_LENGTHS | PANEL, UNNAMED = EVERY & ~BOTH };
+
+/* A slab too many for the panel, by its option: planning alone looks at it. Lengths are asked
+ * later; these are all 0. */
+static void panels_with(void) {
+    const uint16_t gn1 = TOPJESKA_METHOD_GN1;
+    const size_t most = TOPJESKA_MOST_PANEL, n = most + 1;
+    plan_is("plan of the panel's most slabs",
+            topjeska_plan_with(PANEL, gn1, few, most, few, most, NULL, 0, room, ROOM), 0, 0, 0, 0);
+    plan_is("plan of the panel's most slabs with lengths",
+            topjeska_plan_with(BOTH, gn1, few, most, few, most, few, most, room, ROOM), 0, 0, 0, 0);
+    plan_is("plan of the panel's most slabs and no lengths",
+            topjeska_plan_with(BOTH, gn1, few, most, few, most, NULL, 0, room, ROOM),
+            TOPJESKA_REFUSAL_LENGTHS_COUNT, 0, 0, 0);
+    plan_is("plan of one more", topjeska_plan_with(PANEL, gn1, few, n, few, n, NULL, 0, room, ROOM),
+            TOPJESKA_REFUSAL_PANEL, 0, 0, 0);
+    plan_is("plan of one more with lengths",
+            topjeska_plan_with(BOTH, gn1, few, n, few, n, few, n, room, ROOM),
+            TOPJESKA_REFUSAL_PANEL, 0, 0, 0);
+    plan_is("plan of one more and no lengths",
+            topjeska_plan_with(EVERY, gn1, few, n, few, n, NULL, 0, room, ROOM),
+            TOPJESKA_REFUSAL_PANEL, 0, 0, 0);
+    plan_is("plan of one more with lengths alone",
+            topjeska_plan_with(ALONE, gn1, few, n, few, n, few, n, room, ROOM), 0, 0, 0, 0);
+    plan_is("plan of one more with options unnamed",
+            topjeska_plan_with(UNNAMED, gn1, few, n, few, n, NULL, 0, room, ROOM), 0, 0, 0, 0);
+    check_is("check of one more", topjeska_check_with(BOTH, few, n, few, n, few, n), 0, 0);
+    deadlock_is("deadlock of one more",
+                topjeska_deadlock_with(BOTH, few, n, few, n, few, n, room, ROOM), 0, 0, 0);
+    replay_is("replay of one more", topjeska_replay_with(BOTH, few, n, few, n, few, n, NULL, 0), 0,
+              TOPJESKA_VERDICT_ARRIVES, 0);
+}
+
 /* All that take a sheet by the names of its parts refuse one, with place 0. */
 static void sheet_is_refused(const char *name, topjeska_sheet sheet, uint64_t refusal) {
     uint16_t space[16] = {0};
@@ -225,8 +304,9 @@ static void sheet_is_refused(const char *name, topjeska_sheet sheet, uint64_t re
     replay_is(name, topjeska_sheet_replay(sheet, over, 4), refusal, TOPJESKA_NO_VERDICT, 0);
 }
 
-/* Sheets by the names of their parts: S6 with a slab that is too short, S6 without lengths, S4. And
- * two on which each count of entries is told from the others, the first also the options. */
+/* Sheets by the names of their parts: S6 with a slab that is too short, S6 without lengths, S4. Two
+ * on which each count of entries is told from the others, the first also the options. And the
+ * panel's, S4 and one of a slab too many. */
 static void sheets(void) {
     uint16_t space[16] = {0};
     const uint16_t lifts[] = {1, 0, 3, 2, 1, 4}, pairs[] = {1, 4, 3, 2};
@@ -238,7 +318,7 @@ static void sheets(void) {
                                .goal_len = 4,
                                .lengths = s4_long,
                                .lengths_len = 4};
-    topjeska_sheet fewer = s4;
+    topjeska_sheet fewer = s4, at_panel = s4;
     const topjeska_sheet more = {
         .now = many, .now_len = TOPJESKA_MOST_SLABS + 1, .goal = many, .goal_len = 4};
     check_is("sheet S6", topjeska_sheet_check(s6), 0, 0);
@@ -269,6 +349,16 @@ static void sheets(void) {
     fewer.lengths_len = 3;
     sheet_is_refused("sheet S4 with a length less", fewer, TOPJESKA_REFUSAL_LENGTHS_COUNT);
     sheet_is_refused("sheet of too many slabs", more, TOPJESKA_REFUSAL_TOO_MANY);
+    at_panel.options = TOPJESKA_LENGTHS | TOPJESKA_PANEL;
+    plan_is("panel's plan of sheet S4",
+            topjeska_sheet_plan(at_panel, TOPJESKA_METHOD_GN1, space, 16), 0, 0, 3, 2);
+    space_is("panel's lifts of sheet S4", space, lifts, 6);
+    at_panel.now = at_panel.goal = at_panel.lengths = few;
+    at_panel.now_len = at_panel.goal_len = at_panel.lengths_len = TOPJESKA_MOST_PANEL + 1;
+    plan_is("panel's plan of a sheet of one more",
+            topjeska_sheet_plan(at_panel, TOPJESKA_METHOD_GN1, room, ROOM), TOPJESKA_REFUSAL_PANEL,
+            0, 0, 0);
+    check_is("check of that sheet", topjeska_sheet_check(at_panel), 0, 0);
 }
 
 /* A list lent for an arrangement, and what it holds then: numbers that no arrangement has. */
@@ -324,12 +414,14 @@ static void draws(void) {
 int main(void) {
     checks();
     plans();
+    panels();
     deadlocks();
     replays();
     checks_with();
     plans_with();
     deadlocks_with();
     replays_with();
+    panels_with();
     sheets();
     trainings();
     draws();

@@ -1,34 +1,34 @@
-/* The stack of every operation at its most slabs, with lengths and without, held to
- * TOPJESKA_STACK_BYTES. Each runs in a thread of its own on a painted stack, and what it used is
+/* The stack of every operation at its most slabs and at the panel's, with lengths and without, held
+ * to TOPJESKA_STACK_BYTES. Each runs in a thread of its own on a painted stack, and what it used is
  * counted from the end of that stack down to where the paint begins: thread and all, so that a
- * thread with TOPJESKA_STACK_BYTES is enough. The answers are held too, so that no call ends
- * early. */
+ * thread with TOPJESKA_STACK_BYTES is enough. The answers are held too, so that no call ends early,
+ * and those of the panel's entry to the yard office's. */
 #define _XOPEN_SOURCE 600
 #include <pthread.h>
 #include <stdlib.h>
 
 #include "expect.h"
 
-enum { SLABS = TOPJESKA_MOST_SLABS, TRAINED = TOPJESKA_MOST_TRAINED };
+enum { SLABS = TOPJESKA_MOST_SLABS, FEW = TOPJESKA_MOST_PANEL, TRAINED = TOPJESKA_MOST_TRAINED };
 
 /* So much stack is lent that a call above the bound is measured and does not crash. */
 enum { PAINT = 0xA5, PAGE = 4096, LENT = 1 << 20 };
 
 /* The operations, those on sheets first, and the most bytes that each used. */
-enum { CHECK, REPLAY, PLAN, DEADLOCK, TRAINING, OPERATIONS };
-static const char *const names[OPERATIONS] = {"check", "replay", "planning", "deadlock test",
-                                              "training"};
+enum { CHECK, REPLAY, PLAN, PANEL, DEADLOCK, TRAINING, OPERATIONS };
+static const char *const names[OPERATIONS] = {
+    "check", "replay", "planning", "planning by the panel", "deadlock test", "training"};
 static size_t most[OPERATIONS];
 
 /* What the calls are lent, all lengths equal, and their answers; whether the lengths are lent. */
-static uint16_t now[SLABS + 1], goal[SLABS + 1], space[TOPJESKA_PLAN_SPACE(SLABS)], method;
-static uint16_t lengths[SLABS + 1];
+static uint16_t now[SLABS + 1], goal[SLABS + 1], lengths[SLABS + 1], method;
+static uint16_t space[TOPJESKA_PLAN_SPACE(SLABS)], panel_space[TOPJESKA_PLAN_SPACE(SLABS)];
 static int measured;
-static size_t n = SLABS, lifts_len;
+static size_t n, lifts_len;
 static uint64_t number;
 static topjeska_generator generator;
 static topjeska_check_answer check_answer;
-static topjeska_plan_answer plan_answer;
+static topjeska_plan_answer plan_answer, panel_answer;
 static topjeska_deadlock_answer deadlock_answer;
 static topjeska_replay_answer replay_answer;
 static topjeska_training_answer training_answer, draw_answer;
@@ -51,6 +51,12 @@ static void *call(void *operation) {
         plan_answer = measured ? topjeska_plan_with(options, method, now, n, goal, n, lengths, n,
                                                     space, plan_len)
                                : topjeska_plan(method, now, n, goal, n, space, plan_len);
+        break;
+    case PANEL:
+        panel_answer =
+            measured ? topjeska_plan_with(options | TOPJESKA_PANEL, method, now, n, goal, n,
+                                          lengths, n, panel_space, plan_len)
+                     : topjeska_plan_panel(method, now, n, goal, n, panel_space, plan_len);
         break;
     case DEADLOCK:
         deadlock_answer = measured ? topjeska_deadlock_with(options, now, n, goal, n, lengths, n,
@@ -87,6 +93,23 @@ static void measure(int operation) {
         most[operation] = LENT - unused;
 }
 
+/* Planning by both entries, in spaces that hold 0. They answer alike and leave their spaces alike,
+ * but where the sheet is too large for the panel alone: then it refuses, and its space holds 0. */
+static void plan_both(const char *name) {
+    static const uint16_t zeros[TOPJESKA_PLAN_SPACE(SLABS)];
+    const int alike = n <= FEW || n > SLABS;
+    memset(space, 0, sizeof space);
+    memset(panel_space, 0, sizeof panel_space);
+    measure(PLAN);
+    measure(PANEL);
+    if (alike)
+        plan_is(name, panel_answer, plan_answer.refusal, plan_answer.place, plan_answer.count,
+                plan_answer.misplaced);
+    else
+        plan_is(name, panel_answer, TOPJESKA_REFUSAL_PANEL, 0, 0, 0);
+    space_is(name, panel_space, alike ? space : zeros, TOPJESKA_PLAN_SPACE(SLABS));
+}
+
 /* Every operation on the sheet that is there: the count of lifts by method 1 and by 2 and 3, all of
  * which arrive, the misplaced slabs, the deadlocked slabs, and how the space then begins. */
 static void answered(const char *name, uint64_t put_down, uint64_t built, uint64_t misplaced,
@@ -94,7 +117,7 @@ static void answered(const char *name, uint64_t put_down, uint64_t built, uint64
     measure(CHECK);
     check_is(name, check_answer, 0, 0);
     for (method = TOPJESKA_METHOD_US; method <= TOPJESKA_METHOD_GN2; method++) {
-        measure(PLAN);
+        plan_both(name);
         plan_is(name, plan_answer, 0, 0, method == TOPJESKA_METHOD_US ? put_down : built,
                 misplaced);
         lifts_len = 2 * plan_answer.count;
@@ -109,8 +132,10 @@ static void answered(const char *name, uint64_t put_down, uint64_t built, uint64
 /* Every operation on sheets refused. */
 static void refused(const char *name, uint64_t refusal, uint64_t place) {
     method = TOPJESKA_METHOD_GN2;
-    for (int operation = CHECK; operation <= DEADLOCK; operation++)
-        measure(operation);
+    measure(CHECK);
+    measure(REPLAY);
+    plan_both(name);
+    measure(DEADLOCK);
     check_is(name, check_answer, refusal, place);
     plan_is(name, plan_answer, refusal, place, 0, 0);
     deadlock_is(name, deadlock_answer, refusal, place, 0);
@@ -119,51 +144,47 @@ static void refused(const char *name, uint64_t refusal, uint64_t place) {
 
 /* One pile that shall stand the other way up. Methods 2 and 3 lift each slab once, from the top. */
 static void turned_over(void) {
-    const uint16_t front[] = {SLABS, 0, SLABS - 1, SLABS};
-    for (uint16_t slab = 1; slab <= SLABS; slab++) {
+    const uint16_t front[] = {n, 0, n - 1, n};
+    for (uint16_t slab = 1; slab <= n; slab++) {
         now[slab - 1] = slab - 1;
-        goal[slab - 1] = slab == SLABS ? 0 : slab + 1;
+        goal[slab - 1] = slab == n ? 0 : slab + 1;
     }
-    answered("one pile turned over", 2 * (SLABS - 1), SLABS, SLABS, 0, front);
+    answered("one pile turned over", 2 * (n - 1), n, n, 0, front);
 }
 
 /* Piles of two in a ring: each upper slab goes to the next pile, and all are in one deadlock. */
 static void ring(void) {
-    enum { HALF = SLABS / 2 };
-    const uint16_t front[] = {HALF + 1, 2, HALF + 2, 3};
-    for (uint16_t foot = 1; foot <= HALF; foot++) {
+    const uint16_t half = n / 2, front[] = {half + 1, 2, half + 2, 3};
+    for (uint16_t foot = 1; foot <= half; foot++) {
         now[foot - 1] = goal[foot - 1] = 0;
-        now[HALF + foot - 1] = foot;
-        goal[HALF + foot - 1] = foot % HALF + 1;
+        now[half + foot - 1] = foot;
+        goal[half + foot - 1] = foot % half + 1;
     }
-    answered("a ring", 2 * HALF, HALF + 1, HALF, HALF, front);
+    answered("a ring", 2 * half, half + 1, half, half, front);
 }
 
 /* S5 of document 01 over and over: by method 1 six lifts each, by 2 and 3 five, four slabs
  * misplaced. The deadlock test shows the first deadlock, the pair 1 2; behind it stands the list of
  * method 3. */
 static void many_deadlocks(void) {
-    enum { SMALL = 5, COPIES = SLABS / SMALL };
-    const uint16_t s5_now[] = {2, 3, 0, 5, 0}, s5_goal[] = {5, 0, 0, 3, 2};
-    for (uint16_t slab = 0; slab < COPIES * SMALL; slab++) {
+    enum { SMALL = 5 };
+    const uint16_t s5_now[] = {2, 3, 0, 5, 0}, s5_goal[] = {5, 0, 0, 3, 2}, copies = n / SMALL;
+    for (uint16_t slab = 0; slab < copies * SMALL; slab++) {
         uint16_t first = slab - slab % SMALL;
         now[slab] = s5_now[slab % SMALL] == 0 ? 0 : first + s5_now[slab % SMALL];
         goal[slab] = s5_goal[slab % SMALL] == 0 ? 0 : first + s5_goal[slab % SMALL];
     }
     const uint16_t front[] = {1, 2, 2, 0};
-    answered("many deadlocks", 6 * COPIES, 5 * COPIES, 4 * COPIES, 1, front);
+    answered("many deadlocks", 6 * copies, 5 * copies, 4 * copies, 1, front);
 }
 
-/* A goal of which nothing comes down to the ground, and then a slab too many. */
-static void faulty(void) {
-    for (uint16_t slab = 1; slab <= SLABS; slab++) {
+/* A goal of which nothing comes down to the ground. */
+static void floating(void) {
+    for (uint16_t slab = 1; slab <= n; slab++) {
         now[slab - 1] = 0;
-        goal[slab - 1] = slab % SLABS + 1;
+        goal[slab - 1] = slab % n + 1;
     }
     refused("a floating goal", TOPJESKA_REFUSAL_GOAL_FLOATING, 1);
-    n = SLABS + 1;
-    refused("a slab too many", TOPJESKA_REFUSAL_TOO_MANY, 0);
-    n = SLABS;
 }
 
 /* The last arrangement of the most slabs, where each slab rests on the highest other top there is,
@@ -185,11 +206,17 @@ static void training(void) {
 }
 
 int main(void) {
+    const size_t sizes[] = {SLABS, FEW};
     for (measured = 0; measured <= 1; measured++) {
-        turned_over();
-        ring();
-        many_deadlocks();
-        faulty();
+        for (int k = 0; k < 2; k++) {
+            n = sizes[k];
+            turned_over();
+            ring();
+            many_deadlocks();
+            floating();
+        }
+        n = SLABS + 1;
+        refused("a slab too many", TOPJESKA_REFUSAL_TOO_MANY, 0);
     }
     training();
     for (int operation = 0; operation < OPERATIONS; operation++) {

@@ -33,7 +33,7 @@ method-back Us = refl
 method-back Gn1 = refl
 method-back Gn2 = refl
 
-is-method : (m : Method) → IsMethod (numberOf m)
+pub is-method : (m : Method) → IsMethod (numberOf m)
 is-method Us = record { low = omega arith; high = omega arith }
 is-method Gn1 = record { low = omega arith; high = omega arith }
 is-method Gn2 = record { low = omega arith; high = omega arith }

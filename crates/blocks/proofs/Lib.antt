@@ -30,3 +30,5 @@ pub mod Theorems
 pub mod WithTheorems
 pub mod Starred
 pub mod WithSheets
+pub mod PanelLaws
+pub mod PanelTheorems

@@ -14,5 +14,7 @@ pub mod Demands
 pub mod Length
 pub mod With
 pub mod WithDemands
+pub mod Panel
+pub mod PanelDemands
 pub mod Sheets
 pub mod WithSheets

@@ -20,6 +20,7 @@ use Rattle.blocks.specs.Demands.{HeadCount, Promise}
 use Rattle.blocks.specs.Length.{Lengths}
 use Rattle.blocks.specs.With.{planQuestionsWith, planAnswerWith, planSpaceWith}
 use Rattle.blocks.specs.WithDemands.{HeadCountWith, PromiseWith}
+use Rattle.blocks.specs.Panel.{planQuestionsUpTo, planAnswerUpTo, planSpaceUpTo}
 use Rattle.problem.specs.Known.{AtStart}
 use Rattle.choices.specs.Choices.{Visits}
 use Rattle.statuses.specs.declared.Mode.{Mode}
@@ -79,6 +80,14 @@ pub record PlansWith (ls : Lengths) (m : ℕ) (s g : State) (space : List ℕ) (
   pub told : (c d : ℕ) → r ≡ Made c d → (by : method.Method) → methodOf m ≡ some by → words.By by s g (moves (take (2 * c) space′))
   pub promise : (c d : ℕ) → r ≡ Made c d → (by : method.Method) → methodOf m ≡ some by → PromiseWith ls by s g (moves (take (2 * c) space′))
   pub head-count : (c d : ℕ) → r ≡ Made c d → HeadCountWith ls s g d
+
+-- The same by an entry that takes at most `limit` blocks: on that many or fewer it is planning without a limit, and no list is written for more.
+pub record PlansUpTo (limit : ℕ) (ls : Lengths) (m : ℕ) (s g : State) (space : List ℕ) (r : Planned) (space′ : List ℕ) : Type 0 where
+  pub asked : askedOf r ≡ firstNo (planQuestionsUpTo limit ls m s g space)
+  pub answer : answerOf r ≡ planAnswerUpTo limit ls m s g space
+  pub lent : space′ ≡ planSpaceUpTo limit ls m s g space
+  pub alike : length s ≤ limit → PlansWith ls m s g space r space′
+  pub small : (c d : ℕ) → r ≡ Made c d → length s ≤ limit
 
 -- A problem that has been checked, with its rows as the check left them, and room for the plan.
 pub record Solvable (s g : State) (y : Yard) (out : List ℕ) : Type 0 where

@@ -1,8 +1,11 @@
 // Planning by the three methods (document 01, "The three methods"; document 001, section 3.2).
 ghost use mathlib.Core.Path.{_≡_};
+ghost use mathlib.Core.Bool.{_&&_};
+ghost use lib.Dec.{leb, ltb};
+ghost use Rattle.blocks.specs.State.{most};
 ghost use Rattle.blocks.specs.Method.{methodOf};
 ghost use Rattle.blocks.specs.Length.{given};
-ghost use Rattle.planner.specs.Answers.{asMethod, namedAs, modeOf, isUs, Plans, PlansWith, Solvable, Ran, Solved};
+ghost use Rattle.planner.specs.Answers.{asMethod, namedAs, modeOf, isUs, Plans, PlansWith, PlansUpTo, Solvable, Ran, Solved};
 use numberset::WORDS;
 use problem::Checked;
 use rows::MOST;
@@ -60,6 +63,21 @@ pub fn plan_with(
 ) -> Planned
     ensures { λ r. ⌜ PlansWith (given measured (now (lengths .entry))) method (now (initial .entry)) (now (goal .entry)) (now (out .entry)) r (now (out .exit)) ⌝ }
 {
+    plan_up_to(MOST, method, initial, goal, measured, lengths, out)
+}
+
+// The same by an entry that takes at most `limit` blocks: with question 19 directly after 2.
+pub fn plan_up_to(
+    limit: usize,
+    method: u16,
+    initial: &[u16],
+    goal: &[u16],
+    measured: bool,
+    lengths: &[u16],
+    out: &mut [u16],
+) -> Planned
+    ensures { λ r. ⌜ PlansUpTo limit (given measured (now (lengths .entry))) method (now (initial .entry)) (now (goal .entry)) (now (out .entry)) r (now (out .exit)) ⌝ }
+{
     let named = method_of(method);
     let Named::By(by) = named else {
         return Planned::Refused {
@@ -67,6 +85,12 @@ pub fn plan_with(
             place: 0,
         };
     };
+    if beyond(limit, initial.len()) {
+        return Planned::Refused {
+            number: 19,
+            place: 0,
+        };
+    }
     let mut yard = [[0u16; ROW]; ROWS];
     let checked = lengths::examine(initial, goal, measured, lengths, &mut yard);
     if let Checked::Refused { number, place } = checked {
@@ -79,6 +103,13 @@ pub fn plan_with(
         };
     }
     solve(by, initial, goal, &mut yard, out)
+}
+
+// Question 19, which is put where 2 is answered yes: whether n is beyond the limit.
+fn beyond(limit: usize, n: usize) -> bool
+    ensures { λ r. ⌜ r ≡ (leb n most && ltb limit n) ⌝ }
+{
+    (n <= MOST) & (limit < n)
 }
 
 // The plan of a method for a problem that has been checked, whose rows are as the check left them, and room for the plan. What is misplaced is counted first:

@@ -2,12 +2,12 @@
 use Prim.Native.Nat.{ℕ, _*_}
 use mathlib.Core.Path.{_≡_, refl, sym, ap, ap₂, _∙_, subst}
 use mathlib.Core.Logic.{_≢_}
-use mathlib.Core.Bool.{Bool}
+use mathlib.Core.Bool.{Bool, true, false, cond}
 use mathlib.Core.List.{List, _++_}
 use mathlib.Core.Option.{none, some}
 use native.Mathlib.Omega.{arith}
 use lib.ListN.{length, take}
-use Rattle.blocks.specs.State.{State}
+use Rattle.blocks.specs.State.{State, most}
 use Rattle.blocks.specs.Loop.{memberᵇ}
 use Rattle.blocks.specs.Question.{Question, numbers, problemQuestions, stateQuestions, asksMethod, asksSize, asksSame, asksOutside, asksShared, asksFloating}
 use Rattle.blocks.specs.Question.{asksRoom, asksPlan}
@@ -16,10 +16,13 @@ use Rattle.blocks.specs.Demands.{NoDeadlock, Shown}
 use Rattle.blocks.specs.Length.{Lengths, given}
 use Rattle.blocks.specs.With.{problemQuestionsWith, planQuestionsWith, PlanRefusedWith, deadlockQuestionsWith, DeadlockRefusedWith}
 use Rattle.blocks.specs.With.{checkAnswerWith, replayAnswerWith}
+use Rattle.blocks.specs.Panel.{panelMost, PlanRefusedUpTo}
 use Rattle.blocks.proofs.QuestionLaws.{other-number}
 use Rattle.blocks.proofs.LengthLaws.{solves-any, accepted-any}
 use Rattle.blocks.proofs.WithLaws.{problem-none, behind-order, as-before}
 use Rattle.blocks.proofs.WithTheorems.{with-theorems, promise-plain, head-count-plain}
+use Rattle.blocks.proofs.PanelLaws.{other-no}
+use Rattle.blocks.proofs.PanelTheorems.{panel-theorems, same-answers}
 use Rattle.lengths.specs.Checks.{ChecksWith}
 use Rattle.problem.specs.Checked as problem
 use Rattle.problem.specs.declared.Checked as checked
@@ -35,9 +38,9 @@ use Rattle.training.specs.Answers as training
 use Rattle.training.specs.declared.Trained as trained
 use Rattle.training.specs.declared.Drawn as drawn
 use Rattle.training.proofs.Theorems.{promises}
-use Rattle.topjeska.specs.Options.{lengthsBit, optionSet, lengthsOf}
+use Rattle.topjeska.specs.Options.{lengthsBit, panelBit, optionSet, lengthsOf, limitOf}
 use Rattle.topjeska.specs.Exports.{asCheck, asPlan, asDeadlock, asReplay, asTraining, ExportsTraining, ExportsDraw}
-use Rattle.topjeska.specs.Exports.{ExportsPlan, ExportsPlanWith, ExportsDeadlock, ExportsDeadlockWith, ExportsReplay, ExportsReplayWith}
+use Rattle.topjeska.specs.Exports.{ExportsPlan, ExportsPlanWith, ExportsPlanUpTo, ExportsPanel, ExportsDeadlock, ExportsDeadlockWith, ExportsReplay, ExportsReplayWith}
 use Rattle.topjeska.specs.declared.CheckAnswer.{CheckAnswer}
 use Rattle.topjeska.specs.declared.PlanAnswer.{PlanAnswer}
 use Rattle.topjeska.specs.declared.DeadlockAnswer.{DeadlockAnswer}
@@ -54,6 +57,9 @@ problem-numbers (some l) s g rs = ap (memberᵇ 0) (behind-order l s g rs)
 plan-number : (ls : Lengths) (m : ℕ) (s g : State) (space : List ℕ) (k p : ℕ) → PlanRefusedWith ls m s g space k p → k ≢ 0
 unfolding planQuestionsWith asksMethod asksRoom asksPlan
 plan-number ls m s g space k p r = other-number (planQuestionsWith ls m s g space) 0 (problem-numbers ls s g _) k p r
+
+up-to-number : (limit : ℕ) (ls : Lengths) (m : ℕ) (s g : State) (space : List ℕ) (k p : ℕ) → PlanRefusedUpTo limit ls m s g space k p → k ≢ 0
+up-to-number limit ls m s g space k p r e = plan-number ls m s g space k p (other-no limit ls m s g space k p (λ i. omega (arith, e, i)) r) e
 
 deadlock-number : (ls : Lengths) (s g : State) (space : List ℕ) (k p : ℕ) → DeadlockRefusedWith ls s g space k p → k ≢ 0
 unfolding deadlockQuestionsWith asksRoom
@@ -81,37 +87,62 @@ module _ {r : planned.Planned} where
   pub plan-made : {c d : ℕ} → r ≡ planned.the-variants.Made c d → asPlan (record { refusal = 0; place = 0; count = c; misplaced = d }) ≡ planner.answerOf r
   plan-made e = ap planner.answerOf (sym e)
 
-plan-export : {ls : Lengths} {m : ℕ} {s g : State} {space : List ℕ} {r : planned.Planned} {space′ : List ℕ} {a : PlanAnswer}
-    → planner.PlansWith ls m s g space r space′ → asPlan a ≡ planner.answerOf r → ExportsPlanWith ls m s g space a space′
-plan-export {ls} {m} {s} {g} {space} {r} {space′} {a} w e =
+plan-export : {limit : ℕ} {ls : Lengths} {m : ℕ} {s g : State} {space : List ℕ} {r : planned.Planned} {space′ : List ℕ} {a : PlanAnswer}
+    → planner.PlansUpTo limit ls m s g space r space′ → asPlan a ≡ planner.answerOf r → ExportsPlanUpTo limit ls m s g space a space′
+plan-export {limit} {ls} {m} {s} {g} {space} {r} {space′} {a} w e =
     record {
       answer = e ∙ w .answer;
       lent = w .lent;
-      told = λ z. w .told (a .count) (a .misplaced) (made r refl z);
-      promise = λ z. w .promise (a .count) (a .misplaced) (made r refl z);
-      head-count = λ z. w .head-count (a .count) (a .misplaced) (made r refl z);
+      alike = λ h.
+          let v = w .alike h in
+          record {
+            answer = e ∙ v .answer;
+            lent = v .lent;
+            told = λ z. v .told (a .count) (a .misplaced) (made r refl z);
+            promise = λ z. v .promise (a .count) (a .misplaced) (made r refl z);
+            head-count = λ z. v .head-count (a .count) (a .misplaced) (made r refl z);
+          };
+      small = λ z. w .small (a .count) (a .misplaced) (made r refl z);
     }
   where
     -- an answer that is no refusal has the numbers of its plan
     made : (q : planned.Planned) → q ≡ r → a .refusal ≡ 0 → r ≡ planned.the-variants.Made (a .count) (a .misplaced)
     made (planned.the-variants.Refused k p) i z =
         let same : asPlan a ≡ planner.answerOf (planned.the-variants.Refused k p) = e ∙ ap planner.answerOf (sym i) in
-        let refused = with-theorems .plan-refuses ls m s g space k p .0 (sym (w .asked) ∙ ap planner.askedOf (sym i)) in
-        absurd (plan-number ls m s g space k p refused (sym (ap (λ o. o .number) same) ∙ z))
+        let refused = panel-theorems .up-to-refuses limit ls m s g space k p .0 (sym (w .asked) ∙ ap planner.askedOf (sym i)) in
+        absurd (up-to-number limit ls m s g space k p refused (sym (ap (λ o. o .number) same) ∙ z))
     made (planned.the-variants.Made c d) i z =
         let same : asPlan a ≡ planner.answerOf (planned.the-variants.Made c d) = e ∙ ap planner.answerOf (sym i) in
         sym i ∙ ap₂ planned.the-variants.Made (sym (ap (λ o. o .count) same)) (sym (ap (λ o. o .misplaced) same))
 
-pub plan-plain : {m : ℕ} {s g : State} {space : List ℕ} {a : PlanAnswer} {space′ : List ℕ}
-    → ExportsPlanWith none m s g space a space′ → ExportsPlan m s g space a space′
-plan-plain {m} {s} {g} {space} w =
-    record {
-      answer = w .answer ∙ as-before .plan m s g space;
-      lent = w .lent ∙ as-before .plan-space m s g space;
-      told = w .told;
-      promise = λ z by o. promise-plain (w .promise z by o);
-      head-count = λ z. head-count-plain (w .head-count z);
-    }
+module _ {m : ℕ} {s g : State} {space : List ℕ} {a : PlanAnswer} {space′ : List ℕ} where
+  plan-none : ExportsPlanWith none m s g space a space′ → ExportsPlan m s g space a space′
+  plan-none w =
+      record {
+        answer = w .answer ∙ as-before .plan m s g space;
+        lent = w .lent ∙ as-before .plan-space m s g space;
+        told = w .told;
+        promise = λ z by o. promise-plain (w .promise z by o);
+        head-count = λ z. head-count-plain (w .head-count z);
+      }
+
+  -- the office's limit is that of question 2
+  pub plan-office : {ls : Lengths} → ExportsPlanUpTo most ls m s g space a space′ → ExportsPlanWith ls m s g space a space′
+  plan-office {ls} w =
+      let same = same-answers .office ls m s g space in
+      record {
+        answer = w .answer ∙ same .0;
+        lent = w .lent ∙ same .1;
+        told = λ z. w .alike (w .small z) .told z;
+        promise = λ z. w .alike (w .small z) .promise z;
+        head-count = λ z. w .alike (w .small z) .head-count z;
+      }
+
+  pub plan-plain : ExportsPlanUpTo most none m s g space a space′ → ExportsPlan m s g space a space′
+  plan-plain w = plan-none (plan-office w)
+
+  pub plan-panel : ExportsPlanUpTo panelMost none m s g space a space′ → ExportsPanel m s g space a space′
+  plan-panel w = record { answer = w .answer; lent = w .lent; alike = λ h. plan-none (w .alike h); small = w .small }
 
 -- ---- the deadlock test
 
@@ -180,16 +211,24 @@ replay-plain {s} {g} {lifts} w =
       );
     }
 
--- ---- the lengths are those that the options give
+-- ---- the lengths and the limit are those that the options give
+
+module _ (options : ℕ) {t : Bool} (o : t ≡ optionSet options panelBit) where
+  pub panel-limit : t ≡ true → panelMost ≡ limitOf options
+  panel-limit e = ap (λ u. cond u panelMost most) (sym e ∙ o)
+
+  pub office-limit : t ≡ false → most ≡ limitOf options
+  office-limit e = ap (λ u. cond u panelMost most) (sym e ∙ o)
 
 module _ (options : ℕ) (l : List ℕ) {t : Bool} (o : t ≡ optionSet options lengthsBit) {s g : State} where
   pub check-exported : {c : checked.Checked} {a : CheckAnswer} → ChecksWith (given t l) s g c → asCheck a ≡ problem.answerOf c
       → asCheck a ≡ checkAnswerWith (lengthsOf options l) s g
   check-exported w e = rw (← o) (e ∙ w .answer)
 
-  pub plan-exported : {m : ℕ} {space : List ℕ} {r : planned.Planned} {space′ : List ℕ} {a : PlanAnswer} → planner.PlansWith (given t l) m s g space r space′
-      → asPlan a ≡ planner.answerOf r → ExportsPlanWith (lengthsOf options l) m s g space a space′
-  plan-exported w e = rw (← o) (plan-export w e)
+  pub plan-exported : {limit : ℕ} → limit ≡ limitOf options → {m : ℕ} {space : List ℕ} {r : planned.Planned} {space′ : List ℕ} {a : PlanAnswer}
+      → planner.PlansUpTo limit (given t l) m s g space r space′ → asPlan a ≡ planner.answerOf r
+      → ExportsPlanUpTo (limitOf options) (lengthsOf options l) m s g space a space′
+  plan-exported k w e = rw (← o, ← k) (plan-export w e)
 
   pub deadlock-exported : {space : List ℕ} {r : tested.Tested} {space′ : List ℕ} {a : DeadlockAnswer}
       → deadlocks.TestsDeadlockWith (given t l) s g space r space′ → asDeadlock a ≡ deadlocks.answerOf r

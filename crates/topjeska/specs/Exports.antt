@@ -1,5 +1,5 @@
 -- What the exported answers say, in document 01's numbers: `refusal` 0 means answered. Assumes nothing.
-use Prim.Native.Nat.{ℕ, _*_, _%_}
+use Prim.Native.Nat.{ℕ, _*_, _%_, _≤_}
 use mathlib.Core.Path.{_≡_}
 use mathlib.Core.Logic.{_≢_, _↔_}
 use mathlib.Core.List.{List}
@@ -16,6 +16,7 @@ use Rattle.blocks.specs.Demands.{HeadCount, Promise, NoDeadlock, Shown}
 use Rattle.blocks.specs.Length.{Lengths, AcceptedWith, SolvesWith}
 use Rattle.blocks.specs.With.{planAnswerWith, planSpaceWith, deadlockAnswerWith, deadlockSpaceWith, replayAnswerWith}
 use Rattle.blocks.specs.WithDemands.{HeadCountWith, PromiseWith}
+use Rattle.blocks.specs.Panel.{panelMost, planAnswerUpTo, planSpaceUpTo, panelAnswer, panelSpace}
 use Rattle.topjeska.specs.declared.CheckAnswer.{CheckAnswer}
 use Rattle.topjeska.specs.declared.PlanAnswer.{PlanAnswer}
 use Rattle.topjeska.specs.declared.DeadlockAnswer.{DeadlockAnswer}
@@ -56,6 +57,20 @@ pub record ExportsPlanWith (ls : Lengths) (m : ℕ) (s g : State) (space : List 
   pub told : r .refusal ≡ 0 → (method : Method) → methodOf m ≡ some method → By method s g (moves (take (2 * r .count) space′))
   pub promise : r .refusal ≡ 0 → (method : Method) → methodOf m ≡ some method → PromiseWith ls method s g (moves (take (2 * r .count) space′))
   pub head-count : r .refusal ≡ 0 → HeadCountWith ls s g (r .misplaced)
+
+-- The same by an entry that takes at most `limit` blocks: on that many or fewer it is planning without a limit, and no list is written for more.
+pub record ExportsPlanUpTo (limit : ℕ) (ls : Lengths) (m : ℕ) (s g : State) (space : List ℕ) (r : PlanAnswer) (space′ : List ℕ) : Type 0 where
+  pub answer : asPlan r ≡ planAnswerUpTo limit ls m s g space
+  pub lent : space′ ≡ planSpaceUpTo limit ls m s g space
+  pub alike : length s ≤ limit → ExportsPlanWith ls m s g space r space′
+  pub small : r .refusal ≡ 0 → length s ≤ limit
+
+-- By the panel's entry without lengths: on 600 blocks or fewer it is planning as the yard office has it.
+pub record ExportsPanel (m : ℕ) (s g : State) (space : List ℕ) (r : PlanAnswer) (space′ : List ℕ) : Type 0 where
+  pub answer : asPlan r ≡ panelAnswer m s g space
+  pub lent : space′ ≡ panelSpace m s g space
+  pub alike : length s ≤ panelMost → ExportsPlan m s g space r space′
+  pub small : r .refusal ≡ 0 → length s ≤ panelMost
 
 -- The deadlock test: the answer that the definition gives, the lent space whole; count 0 says that no blocks are deadlocked at the start, another count
 -- that the pairs show blocks that are.

@@ -8,13 +8,14 @@ ghost use Rattle.planner.specs.Answers.{answerOf as plannedAs};
 ghost use Rattle.deadlocks.specs.Answers.{answerOf as testedAs};
 ghost use Rattle.validator.specs.Replayed.{answerOf as replayedAs};
 ghost use Rattle.training.specs.Answers.{answerOf};
-ghost use Rattle.topjeska.specs.Options.{optionSet, lengthsOf};
+ghost use Rattle.topjeska.specs.Options.{optionSet, lengthsOf, limitOf};
 ghost use Rattle.topjeska.specs.Exports.{asCheck, asPlan, asDeadlock, asReplay, asTraining, ExportsTraining, ExportsDraw};
-ghost use Rattle.topjeska.specs.Exports.{ExportsPlan, ExportsPlanWith, ExportsDeadlock, ExportsDeadlockWith, ExportsReplay, ExportsReplayWith};
+ghost use Rattle.topjeska.specs.Exports.{ExportsPlan, ExportsPlanUpTo, ExportsPanel, ExportsDeadlock, ExportsDeadlockWith, ExportsReplay, ExportsReplayWith};
 use deadlocks::Tested;
 use generator::Generator;
 use planner::Planned;
 use problem::Checked;
+use rows::MOST;
 use training::Trained;
 use validator::Replayed;
 
@@ -64,6 +65,12 @@ const NO_VERDICT: u64 = 65535;
 // The bits of `options`. Those that are not named are not looked at.
 const LENGTHS: u16 = 1;
 
+// Planning alone looks at this one.
+const PANEL: u16 = 2;
+
+// document 02, Job 5: the panel "takes at most 600 slabs; the yard office still takes 4,000", which is MOST.
+const PANEL_MOST: usize = 600;
+
 // Questions 2 to 9.
 #[no_mangle]
 pub extern "C" fn topjeska_check(initial: &[u16], goal: &[u16]) -> CheckAnswer
@@ -99,7 +106,20 @@ pub extern "C" fn topjeska_plan(
     topjeska_plan_with(0, method, initial, goal, &initial[..0], out)
 }
 
-// The same with options.
+// The same by the cabin panel's entry, which takes at most 600 slabs.
+#[no_mangle]
+pub extern "C" fn topjeska_plan_panel(
+    method: u16,
+    initial: &[u16],
+    goal: &[u16],
+    out: &mut [u16],
+) -> PlanAnswer
+    ensures { λ r. ⌜ ExportsPanel method (now (initial .entry)) (now (goal .entry)) (now (out .entry)) r (now (out .exit)) ⌝ }
+{
+    topjeska_plan_with(PANEL, method, initial, goal, &initial[..0], out)
+}
+
+// Planning with options: with lengths, by the panel's entry, or both.
 #[no_mangle]
 pub extern "C" fn topjeska_plan_with(
     options: u16,
@@ -109,10 +129,11 @@ pub extern "C" fn topjeska_plan_with(
     lengths: &[u16],
     out: &mut [u16],
 ) -> PlanAnswer
-    ensures { λ r. ⌜ ExportsPlanWith (lengthsOf options (now (lengths .entry))) method (now (initial .entry)) (now (goal .entry)) (now (out .entry)) r (now (out .exit)) ⌝ }
+    ensures { λ r. ⌜ ExportsPlanUpTo (limitOf options) (lengthsOf options (now (lengths .entry))) method (now (initial .entry)) (now (goal .entry)) (now (out .entry)) r (now (out .exit)) ⌝ }
 {
     let measured = has_option(options, LENGTHS);
-    plan_numbers(planner::plan_with(method, initial, goal, measured, lengths, out))
+    let limit = limit_of(options);
+    plan_numbers(planner::plan_up_to(limit, method, initial, goal, measured, lengths, out))
 }
 
 // The deadlock test: the pairs are written from the front of the lent space; count 0 says that nothing is deadlocked.
@@ -223,6 +244,17 @@ fn has_option(options: u16, bit: u16) -> bool
     ensures { λ r. ⌜ r ≡ optionSet options bit ⌝ }
 {
     options / bit % 2 == 1
+}
+
+// The most blocks that planning takes, by the options.
+fn limit_of(options: u16) -> usize
+    ensures { λ r. ⌜ r ≡ limitOf options ⌝ }
+{
+    if has_option(options, PANEL) {
+        PANEL_MOST
+    } else {
+        MOST
+    }
 }
 
 // The answers of the other operations in the documents' numbers.

@@ -1,8 +1,8 @@
 //! Sheets of document 01 through the library: their lifts, their deadlocks, a replay and a refusal; then a sheet with
-//! lengths, and a training sheet.
+//! lengths, what the panel takes, and a training sheet.
 
 use topjeska::{
-    check, deadlock, ffi, plan, replay, Generator, Method, ReplayError, Sheet, Verdict,
+    check, deadlock, ffi, plan, plan_panel, replay, Generator, Method, ReplayError, Sheet, Verdict,
 };
 
 fn main() -> Result<(), ReplayError> {
@@ -25,6 +25,7 @@ fn main() -> Result<(), ReplayError> {
     }
     let (_, now, goal) = sheets[1];
     show_lengths(now, goal)?;
+    show_panel();
     let mut generator = Generator::new(7);
     let (mut now, mut goal) = ([0; 5], [0; 5]);
     for (which, out) in [("now", &mut now), ("goal", &mut goal)] {
@@ -65,6 +66,19 @@ fn show_lengths(now: &[u16], goal: &[u16]) -> Result<(), ReplayError> {
         Ok(()) => println!("S4 with a shorter slab 4: accepted"),
     }
     Ok(())
+}
+
+/// Prints what the panel's entry says of a pile that shall stand the other way up: of the most slabs that it takes, and
+/// of one more.
+fn show_panel() {
+    for n in [ffi::MOST_PANEL as u16, ffi::MOST_PANEL as u16 + 1] {
+        let now: Vec<u16> = (0..n).collect();
+        let goal: Vec<u16> = (2..=n).chain([0]).collect();
+        match plan_panel(Method::Gn1, &now, &goal) {
+            Ok(made) => println!("{n} slabs by the panel: {} lifts", made.lifts.len()),
+            Err(refusal) => println!("{n} slabs by the panel: {refusal}"),
+        }
+    }
 }
 
 /// Pairs, each with a space before it.

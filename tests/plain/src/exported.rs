@@ -4,8 +4,9 @@
 
 use crate::{CheckAnswer, DeadlockAnswer, PlanAnswer, ReplayAnswer, Sheet};
 
-/// The bit of options that says that a sheet has lengths.
+/// The bits of options: a sheet has lengths, and planning is the panel's.
 const LENGTHS: u16 = 1;
+const PANEL: u16 = 2;
 
 /// # Safety
 /// The pointer is to `len` numbers that nothing writes meanwhile, or `len` is 0.
@@ -113,6 +114,22 @@ pub unsafe extern "C" fn plain_plan(
 /// # Safety
 /// Each pointer is to as many numbers as the length after it says, and nothing else uses the space.
 #[no_mangle]
+pub unsafe extern "C" fn plain_plan_panel(
+    method: u16,
+    now: *const u16,
+    now_len: usize,
+    goal: *const u16,
+    goal_len: usize,
+    out: *mut u16,
+    out_len: usize,
+) -> PlanAnswer {
+    let sheet = bare(now, now_len, goal, goal_len);
+    crate::plan_panel(method, sheet, space(out, out_len))
+}
+
+/// # Safety
+/// Each pointer is to as many numbers as the length after it says, and nothing else uses the space.
+#[no_mangle]
 pub unsafe extern "C" fn plain_plan_with(
     options: u16,
     method: u16,
@@ -126,7 +143,12 @@ pub unsafe extern "C" fn plain_plan_with(
     out_len: usize,
 ) -> PlanAnswer {
     let sheet = sheet(options, now, now_len, goal, goal_len, lengths, lengths_len);
-    crate::plan(method, sheet, space(out, out_len))
+    let plan = if options & PANEL == 0 {
+        crate::plan
+    } else {
+        crate::plan_panel
+    };
+    plan(method, sheet, space(out, out_len))
 }
 
 /// # Safety

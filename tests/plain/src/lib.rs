@@ -1,5 +1,5 @@
-//! Document 01 in plain Rust, with the lengths of document 02, written for speed and from the documents
-//! alone: the library is measured against it and compared with it.
+//! Document 01 in plain Rust, with the lengths and the panel of document 02, written for speed and from the
+//! documents alone: the library is measured against it and compared with it.
 //!
 //! Blocks are numbered from 1 and 0 is the table. Every list inside has an entry 0 for the table.
 
@@ -12,7 +12,7 @@ mod problem;
 mod towers;
 mod validator;
 
-use problem::{Problem, Refusal};
+use problem::{Problem, Refusal, MOST, MOST_PANEL};
 
 /// Two states, and the lengths of their blocks or none.
 #[derive(Clone, Copy)]
@@ -63,7 +63,7 @@ pub struct ReplayAnswer {
 
 /// Puts questions 2 to 9 to a sheet, and 16 to 18 where it has lengths.
 pub fn check(sheet: Sheet) -> CheckAnswer {
-    match Problem::read(sheet) {
+    match Problem::read(sheet, MOST) {
         Ok(_) => CheckAnswer::default(),
         Err(Refusal { number, place }) => CheckAnswer {
             refusal: number,
@@ -74,7 +74,17 @@ pub fn check(sheet: Sheet) -> CheckAnswer {
 
 /// Writes the plan of a method to the front of `out`.
 pub fn plan(method: u16, sheet: Sheet, out: &mut [u16]) -> PlanAnswer {
-    match planner::plan(method, sheet, out) {
+    plan_up_to(MOST, method, sheet, out)
+}
+
+/// The same from the panel in the crane cabin.
+pub fn plan_panel(method: u16, sheet: Sheet, out: &mut [u16]) -> PlanAnswer {
+    plan_up_to(MOST_PANEL, method, sheet, out)
+}
+
+/// Planning where so many blocks are taken.
+fn plan_up_to(taken: usize, method: u16, sheet: Sheet, out: &mut [u16]) -> PlanAnswer {
+    match planner::plan(method, sheet, taken, out) {
         Ok((count, misplaced)) => PlanAnswer {
             count,
             misplaced,

@@ -6,7 +6,7 @@
 //! comes into position, or the load of that leaves.
 
 use crate::blockset::BlockSet;
-use crate::problem::{refused, Problem, Refusal};
+use crate::problem::{refused, Problem, Refusal, MOST};
 use crate::towers::Towers;
 use crate::Sheet;
 
@@ -120,15 +120,21 @@ impl Plan<'_> {
     }
 }
 
-/// The count of moves of a method's plan, and the count of blocks that are misplaced at the start.
-pub fn plan(method: u16, sheet: Sheet, out: &mut [u16]) -> Result<(u64, u64), Refusal> {
+/// The count of moves of a method's plan, and the count of blocks that are misplaced at the start; of a sheet of at most
+/// `taken` blocks.
+pub fn plan(
+    method: u16,
+    sheet: Sheet,
+    taken: usize,
+    out: &mut [u16],
+) -> Result<(u64, u64), Refusal> {
     let solve = match method {
         1 => us,
         2 => gn1,
         3 => gn2,
         _ => return Err(refused(1)),
     };
-    let problem = Problem::read(sheet)?;
+    let problem = Problem::read(sheet, taken)?;
     if out.len() < 4 * problem.n {
         return Err(refused(10));
     }
@@ -228,7 +234,7 @@ fn gn2(mut yard: Yard, plan: &mut Plan) {
 
 /// The count of blocks on the loop where the constructive moves stall, written with what is in their way.
 pub fn deadlock(sheet: Sheet, out: &mut [u16]) -> Result<u64, Refusal> {
-    let problem = Problem::read(sheet)?;
+    let problem = Problem::read(sheet, MOST)?;
     if out.len() < 2 * problem.n {
         return Err(refused(10));
     }

@@ -1,9 +1,10 @@
-//! Questions 2 to 9, 16 to 18 with lengths, and what is known of an accepted problem at the start.
+//! Questions 2 to 9, 16 to 18 with lengths, 19 for the panel, and what is known of an accepted problem at the start.
 
 use crate::Sheet;
 
-/// The most blocks of a problem.
-const MOST: usize = 4000;
+/// The most blocks of a problem, and the most that the panel in the crane cabin takes.
+pub const MOST: usize = 4000;
+pub const MOST_PANEL: usize = 600;
 
 /// A question answered "no": its number and its place.
 #[derive(Debug)]
@@ -27,8 +28,8 @@ pub struct Problem {
 }
 
 impl Problem {
-    /// Puts questions 2 to 9, and 16 to 18 with lengths.
-    pub fn read(sheet: Sheet) -> Result<Self, Refusal> {
+    /// Puts questions 2 to 9, and 16 to 18 with lengths; directly after 2 it puts 19, for more than `taken`.
+    pub fn read(sheet: Sheet, taken: usize) -> Result<Self, Refusal> {
         let Sheet {
             initial,
             goal,
@@ -37,6 +38,9 @@ impl Problem {
         let n = initial.len();
         if n > MOST {
             return Err(refused(2));
+        }
+        if n > taken {
+            return Err(refused(19));
         }
         if goal.len() != n {
             return Err(refused(3));

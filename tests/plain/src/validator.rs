@@ -1,6 +1,6 @@
 //! Replay of a list of moves.
 
-use crate::problem::{overhangs, refused, Problem, Refusal};
+use crate::problem::{overhangs, refused, Problem, Refusal, MOST};
 use crate::Sheet;
 
 /// The verdict and its place.
@@ -11,7 +11,7 @@ pub fn replay(sheet: Sheet, moves: &[u16]) -> Result<(u64, u64), Refusal> {
         mut load,
         goal,
         ..
-    } = Problem::read(sheet)?;
+    } = Problem::read(sheet, MOST)?;
     let pairs = moves.chunks_exact(2);
     if !pairs.remainder().is_empty() {
         return Err(refused(11));

@@ -7,8 +7,11 @@ use Rattle.topjeska.proofs.topjeska_plan_with.Tie as tie
 has-option-requires : tie.Need-has-option-requires
 has-option-requires c κs = search needs
 
-plan-with-requires : tie.Need-plan-with-requires
-plan-with-requires c κs = search needs
+limit-of-requires : tie.Need-limit-of-requires
+limit-of-requires c κs = search needs
+
+plan-up-to-requires : tie.Need-plan-up-to-requires
+plan-up-to-requires c κs = search needs
 
 plan-numbers-requires : tie.Need-plan-numbers-requires
 plan-numbers-requires c κs = search needs
@@ -22,4 +25,4 @@ returns c = search (needs, plan-exported)
 pub topjeska-plan-with-spec : {M : Type 1} → statement M
 topjeska-plan-with-spec =
     tie.close
-    (tie.spec has-option-requires plan-with-requires plan-numbers-requires same-length returns)
+    (tie.spec has-option-requires limit-of-requires plan-up-to-requires plan-numbers-requires same-length returns)

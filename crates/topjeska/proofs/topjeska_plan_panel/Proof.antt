@@ -1,0 +1,22 @@
+-- `topjeska_plan_panel` meets its contract: it has the panel's option alone. Assumes nothing.
+use borrow.Author.Needs.{needs}
+use Rattle.topjeska.proofs.ExportLaws.{plan-panel}
+use Rattle.topjeska.proofs.topjeska_plan_panel.Statement.{statement}
+use Rattle.topjeska.proofs.topjeska_plan_panel.Tie as tie
+
+slice-aggregate-topjeska-plan-with : tie.Need-slice-aggregate-topjeska-plan-with
+slice-aggregate-topjeska-plan-with c = search needs
+
+topjeska-plan-with-requires : tie.Need-topjeska-plan-with-requires
+topjeska-plan-with-requires c κs = search needs
+
+same-length : tie.Need-same-length
+same-length c = search needs
+
+returns : tie.Need-returns
+returns c = search (needs, plan-panel)
+
+pub topjeska-plan-panel-spec : {M : Type 1} → statement M
+topjeska-plan-panel-spec =
+    tie.close
+    (tie.spec slice-aggregate-topjeska-plan-with topjeska-plan-with-requires same-length returns)
