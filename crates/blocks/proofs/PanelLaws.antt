@@ -18,7 +18,7 @@ use Rattle.blocks.specs.With.{problemQuestionsWith, planQuestionsWith, P
 use Rattle.blocks.specs.Panel.{asksLimit, planQuestionsUpTo, PlanRefusedUpTo, planAnswerUpTo, planSpaceUpTo}
 use Rattle.blocks.specs.PanelDemands.{RefusedBy}
 use Rattle.blocks.proofs.QuestionLaws.{Decided, Decides, asks-decided, first-no}
-use Rattle.blocks.proofs.WithLaws.{plan-decides, plan-accepts, never-13}
+use Rattle.blocks.proofs.WithLaws.{late, plan-decides, plan-accepts, never-13}
 
 -- ---- the order asked
 
@@ -41,7 +41,7 @@ limit-decided limit n = asks-decided (leb-reflects n limit)
 module _ (limit : ℕ) (ls : Lengths) (m : ℕ) (s g : State) (space : List ℕ) where
   -- what is asked after 2, and the rows up to a limit
   abbrev later : List Question
-  later = ((asksSame s g ∷ (stateQuestions 4 5 6 s ++ stateQuestions 7 8 9 g)) ++ lengthQuestions ls s g) ++ (asksRoom (4 * length s) space ∷ asksPlan (planOutcome m s g) ∷ [])
+  later = ((asksSame s g ∷ (stateQuestions 4 5 6 s ++ stateQuestions 7 8 9 g)) ++ lengthQuestions ls s g) ++ late ls m s g space
 
   abbrev rows : List Question
   rows = asksMethod m ∷ asksSize (length s) ∷ asksLimit limit (length s) ∷ later

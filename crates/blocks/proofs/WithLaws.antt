@@ -134,7 +134,7 @@ given (some m) s g q = let w = method-written m s g q in (w .0, w .1)
 
 module _ (ls : Lengths) (m : ℕ) (s g : State) (space : List ℕ) where
   -- the questions after those put to the problem
-  abbrev late : List Question
+  abbrev pub late : List Question
   late = asksRoom (4 * length s) space ∷ asksPlan (planOutcome m s g) ∷ []
 
   pub plan-decides : Decides (planQuestionsWith ls m s g space)
