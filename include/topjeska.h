@@ -26,9 +26,9 @@ extern "C" {
 
 /* ---- version, of this header and of the library beside it */
 
-#define TOPJESKA_VERSION "0.5.0"
+#define TOPJESKA_VERSION "0.6.0"
 #define TOPJESKA_VERSION_MAJOR 0
-#define TOPJESKA_VERSION_MINOR 5
+#define TOPJESKA_VERSION_MINOR 6
 #define TOPJESKA_VERSION_PATCH 0
 
 /* ---- limits and memory */
@@ -48,8 +48,12 @@ extern "C" {
  * by the yard office's, and 2,400 by the panel's. */
 #define TOPJESKA_PLAN_SPACE(n) (4u * (n))
 
+/* The numbers that the deadlock test writes for a slab: row i, counted from 0, begins at
+ * TOPJESKA_DEADLOCK_WIDTH * i. */
+#define TOPJESKA_DEADLOCK_WIDTH 3u
+
 /* The numbers of lent space that the deadlock test needs for n slabs. */
-#define TOPJESKA_DEADLOCK_SPACE(n) (2u * (n))
+#define TOPJESKA_DEADLOCK_ROOM(n) (TOPJESKA_DEADLOCK_WIDTH * (n))
 
 /* The bytes of stack that every call stays below. No call allocates memory or keeps a pointer: the
  * working lists lie on the stack, and are as long for a few slabs as for 4,000, by the panel's
@@ -243,8 +247,10 @@ topjeska_plan_answer topjeska_plan_panel(uint16_t method, const uint16_t *now, s
                                          uint16_t *space, size_t space_len);
 
 /* Writes the deadlock that the constructive lifts come to, if any, to the front of the space, as
- * pairs: the slab, and the slab through which the next one is in its way. The space needs
- * TOPJESKA_DEADLOCK_SPACE numbers; what lies behind the pairs keeps what it held. */
+ * rows of three: a slab of the deadlock; the slab through which the next one is in its way; and
+ * the nearest slab beneath that slab of the deadlock in its goal pile that is in position once all
+ * constructive lifts are made and the yard stalls, 0 for the ground. The space needs
+ * TOPJESKA_DEADLOCK_ROOM numbers; what lies behind the rows keeps what it held. */
 topjeska_deadlock_answer topjeska_deadlock(const uint16_t *now, size_t now_len,
                                            const uint16_t *goal, size_t goal_len,
                                            uint16_t *space, size_t space_len);
@@ -269,7 +275,7 @@ topjeska_plan_answer topjeska_plan_with(uint16_t options, uint16_t method, const
                                         const uint16_t *lengths, size_t lengths_len,
                                         uint16_t *space, size_t space_len);
 
-/* As topjeska_deadlock. A sheet that is accepted with lengths has the same pairs with them and
+/* As topjeska_deadlock. A sheet that is accepted with lengths has the same rows with them and
  * without. */
 topjeska_deadlock_answer topjeska_deadlock_with(uint16_t options, const uint16_t *now,
                                                 size_t now_len, const uint16_t *goal,

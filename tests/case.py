@@ -9,7 +9,7 @@ from collections.abc import Iterable, Iterator, Sequence
 from typing import NamedTuple
 
 import reading
-from reading import LENGTHS, METHODS, MOST, MOST_PANEL, PANEL, Lengths, Pair, Yard
+from reading import LENGTHS, METHODS, MOST, MOST_PANEL, PANEL, WIDTH, Lengths, Pair, Row, Yard
 
 # The operations that plan, the yard office's and the panel's, and all that are lent space.
 PLANNING = ("plan", "panel")
@@ -42,15 +42,38 @@ class Case(NamedTuple):
 
 
 class Answer(NamedTuple):
-    """The numbers of an answer in the header's order, and the pairs written to the front of the space."""
+    """The numbers of an answer in the header's order, and what is written to the front of the space.
+
+    That is the pairs of a list, or the rows of a deadlock.
+    """
 
     numbers: tuple[int, ...]
-    pairs: list[Pair]
+    written: Sequence[tuple[int, ...]]
+
+    @property
+    def pairs(self) -> list[Pair]:
+        """What planning writes."""
+        return [(slab, destination) for slab, destination in self.written]
+
+    @property
+    def rows(self) -> list[Row]:
+        """What the deadlock test writes."""
+        return [(slab, through, c) for slab, through, c in self.written]
 
 
-def flat(pairs: Iterable[Sequence[int]]) -> list[int]:
-    """The numbers of some pairs."""
-    return [number for pair in pairs for number in pair]
+def width(case: Case) -> int:
+    """How many numbers a case writes of a lift, or of a slab."""
+    return WIDTH if case.operation == "deadlock" else 2
+
+
+def flat(written: Iterable[Sequence[int]]) -> list[int]:
+    """The numbers of some pairs or rows."""
+    return [number for one in written for number in one]
+
+
+def grouped(numbers: Sequence[int], wide: int) -> list[tuple[int, ...]]:
+    """Some numbers, so many together; the last are fewer where they are left over."""
+    return [tuple(numbers[at : at + wide]) for at in range(0, len(numbers), wide)]
 
 
 def paired(numbers: Sequence[int]) -> list[Pair]:
@@ -121,17 +144,18 @@ def by_office(case: Case) -> Case:
 
 def read(case: Case) -> Answer:
     """What the reading answers and writes."""
-    now, goal, lengths, pairs = case.now, case.goal, case.looked_at(), []
+    now, goal, lengths = case.now, case.goal, case.looked_at()
     numbers: Sequence[int]
+    written: Sequence[tuple[int, ...]] = []
     if case.operation == "check":
         numbers = reading.check(now, goal, lengths)
     elif case.operation in PLANNING:
-        *numbers, pairs = reading.plan(case.method, now, goal, case.space, lengths, case.most())
+        *numbers, written = reading.plan(case.method, now, goal, case.space, lengths, case.most())
     elif case.operation == "deadlock":
-        *numbers, pairs = reading.deadlock(now, goal, case.space, lengths)
+        *numbers, written = reading.deadlock(now, goal, case.space, lengths)
     else:
         numbers = reading.replay(now, goal, case.lifts, lengths)
-    return Answer(tuple(numbers), pairs)
+    return Answer(tuple(numbers), written)
 
 
 # ---- a case as a line

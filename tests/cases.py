@@ -1,9 +1,9 @@
-"""Makes the cases of crates/library_cases from the reading of document 01 in reading.py.
+"""Makes the cases of crates/library_cases from the reading of documents 01 and 02 in reading.py.
 
 Without an argument it writes the program's stdin and stdout. With --check it makes them in memory
 and compares them with the stored files. The answers come from the reading, never from the program;
 those of some full yards in closed form, which the reading confirms for few slabs. The reading is
-held to what document 01 states, and on small sheets to demand 3 by a breadth-first search.
+held to what the documents state, to sheets by hand, and on small sheets to demand 3 by a breadth-first search.
 """
 
 import itertools
@@ -16,7 +16,7 @@ import promises
 import reading
 import sheets
 from case import SPACED, Case, by_all, checking, flat, following, line, planning, read, replaying, testing
-from reading import MOST, TOP, Pair, Yard, deadlock_space, plan_space
+from reading import MOST, TOP, Pair, Yard, deadlock_space, plan_space, position
 from sheets import ENDS, SEED, Known, tower
 
 HERE = Path(__file__).resolve().parent.parent / "crates" / "library_cases"
@@ -52,17 +52,17 @@ def checksum(numbers: Sequence[int]) -> int:
     return total
 
 
-def space_after(length: int, pairs: Sequence[Pair]) -> list[int]:
-    """What the program tells of a space with some pairs written: its checksum and the first pairs."""
-    written = flat(pairs)
-    space = [*written, *range(TOP - len(written), TOP - length, -1)]
-    return [checksum(space), *written[: 2 * SHOWN]]
+def space_after(length: int, written: Sequence[tuple[int, ...]]) -> list[int]:
+    """What the program tells of a space with some pairs or rows written: its checksum and the first of them."""
+    front = flat(written)
+    space = [*front, *range(TOP - len(front), TOP - length, -1)]
+    return [checksum(space), *flat(written[:SHOWN])]
 
 
 def answer(case: Case) -> str:
     """What the reading answers, as the program writes it."""
-    numbers, pairs = read(case)
-    return as_line(*numbers, *(space_after(case.space, pairs) if case.operation in SPACED else []))
+    numbers, written = read(case)
+    return as_line(*numbers, *(space_after(case.space, written) if case.operation in SPACED else []))
 
 
 # The other answers that document 01 states.
@@ -77,7 +77,7 @@ STATED: list[tuple[Case, str]] = [
 
 
 def misread() -> list[str]:
-    """Where the reading differs from what document 01 states; empty when it agrees."""
+    """Where the reading differs from what the documents state; empty when it agrees."""
     wrong = [f"{line(case)}: {answer(case)}" for case, wished in STATED if answer(case) != wished]
     for now, goal, method, pairs, loop in ENDS:
         (number, place, count, _), written = read(planning(method, now, goal))
@@ -88,6 +88,10 @@ def misread() -> list[str]:
             wrong.append(f"too little space for {now} / {goal}")
         if loop is not None and read(testing(now, goal)) != ((0, 0, len(loop)), loop):
             wrong.append(f"deadlock of {now} / {goal}")
+        if now and read(testing(now, goal, 3 * len(now) - 1)) != ((10, 0, 0), []):
+            wrong.append(f"too little space for the deadlock of {now} / {goal}")
+        if read(testing(now, goal, 3 * len(now))).numbers[0] != 0:
+            wrong.append(f"enough space for the deadlock of {now} / {goal}")
     for now, goal, lifts, astray in sheets.COUNTS:
         (_, _, count, misplaced), _ = read(planning(1, now, goal))
         if lifts not in (None, count) or astray not in (None, misplaced):
@@ -95,15 +99,26 @@ def misread() -> list[str]:
     return wrong
 
 
+def misnamed() -> list[str]:
+    """Where the reading differs from what is found by hand of c, at the start and when the yard stalls."""
+    wrong = []
+    for now, goal, rows, at_start in sheets.GOOD_PARTS:
+        if read(testing(now, goal)) != ((0, 0, len(rows)), rows):
+            wrong.append(f"the rows of {now} / {goal}")
+        if [position(now, goal, slab) for slab, _, _ in rows] != at_start:
+            wrong.append(f"c at the start of {now} / {goal}")
+    return wrong
+
+
 def broken(now: Yard, goal: Yard) -> list[str]:
     """Where the reading breaks demands 2 and 3 or document 02, Job 4, on a small accepted sheet; empty when nowhere."""
     sheet, wrong, lifts = promises.searched(now, goal), [], {}
     for case in by_all(now, goal):
-        numbers, pairs = read(case)
-        lifts |= {case.method: len(pairs)} if case.operation == "plan" else {}
-        if numbers[0] != 0 or numbers[2] != len(pairs):
-            wrong.append(f"{case.operation} is refused, or counts other pairs")
-        wrong += promises.unkept(sheet, case, numbers, pairs)
+        made = read(case)
+        lifts |= {case.method: len(made.written)} if case.operation == "plan" else {}
+        if made.numbers[0] != 0 or made.numbers[2] != len(made.written):
+            wrong.append(f"{case.operation} is refused, or counts others than it writes")
+        wrong += promises.unkept(sheet, case, made)
     wrong += promises.unkept_beside_us(reading.all_down(now, goal, reading.misplaced(now, goal)), lifts)
     return [f"{now} / {goal}: {sentence}" for sentence in wrong]
 
@@ -278,13 +293,13 @@ def random_case(rng: random.Random, kind: int) -> Case:
 
 
 def stated_plans() -> Iterator[Case]:
-    """Every sheet of document 01 by every method and the deadlock test, and the sheets of the loop."""
+    """Every sheet of document 01 by every method and the deadlock test, and the sheets of the loop and of c."""
     for now, goal in sheets.STATED:
         yield from by_all(now, goal)
     for now, goal, _, _ in sheets.REFUSED:
         yield from by_all(now, goal)
         yield from by_all(goal, now)
-    for now, goal in sheets.TRIALS:
+    for now, goal in (*sheets.TRIALS, *(part.sheet() for part in sheets.GOOD_PARTS)):
         yield from by_all(now, goal)
         yield from by_all(goal, now)
 
@@ -300,21 +315,21 @@ def bad_methods() -> Iterator[Case]:
 
 
 def spaces() -> Iterator[Case]:
-    """Question 10: spaces about 4 × n and 2 × n, with and without a deadlock, up to a full yard."""
+    """Question 10: spaces about 4 × n and 3 × n, also 2 × n, with and without a deadlock, up to a full yard."""
     for now, goal, _, _, _ in (ENDS[k] for k in (0, 1, 2, 5, 6)):
         n = len(now)
         enough = (deadlock_space(n), plan_space(n))
-        edges = {0, 1, n, *(size + d for size in enough for d in (-1, 0, 1, 99))}
+        edges = {0, 1, n, 2 * n, *(size + d for size in enough for d in (-1, 0, 1, 99))}
         for length in sorted(edges - {-1}):
             yield from by_all(now, goal, length)
     yield planning(1, [0], [0], 3)
     yield planning(1, [0], [0], 4)
-    yield testing([0], [0], 1)
     yield testing([0], [0], 2)
+    yield testing([0], [0], 3)
     full = [0] * MOST, [0] * (MOST - 1) + [1]
     for length in (plan_space(MOST) - 1, plan_space(MOST), 16384):
         yield planning(2, *full, length)
-    for length in (deadlock_space(MOST) - 1, deadlock_space(MOST)):
+    for length in (2 * MOST, deadlock_space(MOST) - 1, deadlock_space(MOST)):
         yield testing(*full, length)
 
 
@@ -359,8 +374,10 @@ def larger_plans() -> Iterator[Case]:
 def known_answers(known: Known) -> Iterator[tuple[Case, str]]:
     """The cases of a sheet in closed form with their answers."""
     for case in by_all(known.now, known.goal):
-        pairs, more = (known.pairs(case.method), [known.misplaced()]) if case.operation == "plan" else (known.loop, [])
-        yield case, as_line(0, 0, len(pairs), *more, *space_after(case.space, pairs))
+        planned = case.operation == "plan"
+        written = known.pairs(case.method) if planned else known.loop
+        more = [known.misplaced()] if planned else []
+        yield case, as_line(0, 0, len(written), *more, *space_after(case.space, written))
 
 
 def misknown() -> list[str]:
@@ -428,7 +445,8 @@ def main() -> int:
     print(f"seed {SEED}")
     searched, breaches = unkept()
     print(f"{searched} sheets searched")
-    wrong = [f"the reading differs from document 01: {sentence}" for sentence in misread()]
+    wrong = [f"the reading differs from the documents: {sentence}" for sentence in misread()]
+    wrong += [f"the reading differs from a sheet by hand: {sentence}" for sentence in misnamed()]
     wrong += [f"the reading breaks a demand: {sentence}" for sentence in breaches]
     wrong += [f"the reading differs from a closed form: {sentence}" for sentence in misknown()]
     for sentence in wrong:

@@ -17,14 +17,13 @@ import tempfile
 from collections.abc import Iterator, Sequence
 from pathlib import Path
 
-import reading
 import records
 import sheets
 from case import planning, read
 from reading import METHODS, MOST, MOST_PANEL, TOP, VERDICTS, Lengths, Pair, Yard
 from records import EXAMPLE
 from said import arranged_object, check_object, deadlock_object, plan_object, replay_object, trained_objects
-from said import right_check, right_deadlock, right_plan, right_replay, ring_words, untrue
+from said import right_check, right_deadlock, right_plan, right_replay, untrue
 from tested import ROOT, Ended, Test, lacking, list_line, misended, sheet_line, sheet_of, unlike
 
 LIBRARY = ROOT / "target" / "staticlib"
@@ -151,7 +150,8 @@ UNREADABLE = [
 
 def unwrapped(text: str) -> str:
     """The tool's words with each sentence and each row in one line, and one space where there are several."""
-    return "\n".join(" ".join(line.split()) for line in re.sub(r"\n  +(?!\d+ (?:shall|above))", " ", text).splitlines())
+    joined = re.sub(r"\n  +(?!\d+ (?:shall|above)|the goal pile of|nothing beneath)", " ", text)
+    return "\n".join(" ".join(line.split()) for line in joined.splitlines())
 
 
 def unlike_each(ended: Ended, some: Sequence[Sheet], right: Sequence[str]) -> str:
@@ -222,8 +222,9 @@ def some_sheets() -> list[Sheet]:
     rng = random.Random(sheets.SEED)
     found = [*sheets.small_sheets()]
     found += [sheets.random_sheet(rng, 5 + number % 2, number % 3) for number in range(RANDOM_SHEETS)]
+    found += [part.sheet() for part in sheets.GOOD_PARTS]
     larger = [*(sheets.random_sheet(rng, 12, number % 3) for number in range(12)), *sheets.TRIALS, *SEVERAL]
-    return [*found, *measured_sheets(), *larger, *(sheets.ring(n)[:2] for n in (8, 10, 40))]
+    return [*found, *measured_sheets(), *larger, *(sheets.ring(n)[:2] for n in (8, 10, 40)), sheets.begun(30)[:2]]
 
 
 def sheet_words(page: dict[str, str]) -> Iterator[Test]:
@@ -518,11 +519,22 @@ def sheet_pipes() -> Iterator[Test]:
     yield "tools/sheet, a plain line behind what it printed", wrong
     ended = run(["sheet", "check", "-"], given=f"{printed(named)}0 / 0\n")
     yield "tools/sheet, a plain line within what it printed", misended(ended, 2, ["a sheet stands among what"])
+    for name, each in (("pairs", "1 4, 3 2"), ("rows", "1 4 4, 3 2 2")):
+        ended = run(["sheet", "check", "-"], given=f"deadlock: slabs 1 and 3\n{name}: {each}\nsheet: {named}\n")
+        wrong = misended(ended, 0) or unlike(ended.stdout.count("accepted:"), 1)
+        yield f"tools/sheet, a deadlock printed as {name}", wrong
+    shown = run(["sheet", "deadlock", sheet_line(*long)]).stdout.partition("rows:")[2].partition("sheet:")[0]
+    broken = [part for part in shown.strip().splitlines()[:-1] if not part.endswith(",")]
+    yield "tools/sheet deadlock, no row in two lines", unlike((broken, "\n" in shown.strip()), ([], True))
     measured = *sheets.STATED[3], [250, 300, 250, 300]
     for form in ([], ["--json"]):
         ended = run(["sheet", "replay", "-"], given=printed(sheet_line(*measured), *form))
         right = right_replay(now, goal, read(planning(3, now, goal)).pairs, measured[2])
         yield f"tools/sheet replay, what plan prints with lengths {form}", unlike_each(ended, [measured], [right])
+    tested = run(["sheet", "deadlock", named, "0 / 0"]).stdout
+    ended, right = run(["sheet", "plan", "3", "-"], given=tested), [right_plan(3, now, goal), right_plan(3, [0], [0])]
+    right[0] = right[0].replace("sheet: ", "sheet: S4: ")
+    yield "tools/sheet plan, what deadlock prints", unlike_each(ended, [(now, goal), ([0], [0])], right)
     two = printed(named, "0 / 0")
     ended = run(["sheet", "check", "-"], given=two.replace("\n", "\r\n"))
     yield "tools/sheet, what it printed, with CRLF", unlike(ended.stdout.count("accepted:"), 2)

@@ -6,8 +6,9 @@ to the reading on every small case too. With lengths the same; equal lengths, an
 options do not name, must also be answered as none. On every accepted sheet the lifts of the three
 methods are held to each other and to the number that document 02, Job 4, names. Every case of planning
 is put to the panel's entry too: up to 600 slabs the outcomes of both are equal, and at the limits they
-are what the documents state. A failing case is printed as a line, also where the library crashes or
-does not return; run lines again with `python3 tests/differential.py --cases FILE` (`-`: standard input).
+are what the documents state. The rows of the deadlock test are also held to sheets by hand and closed
+forms. A failing case is printed as a line, also where the library crashes or does not return; run lines
+again with `python3 tests/differential.py --cases FILE` (`-`: standard input).
 """
 
 import argparse
@@ -22,7 +23,7 @@ import signal
 import subprocess
 import sys
 import time
-from collections.abc import Callable, Iterable, Iterator
+from collections.abc import Callable, Iterable, Iterator, Sequence
 from pathlib import Path
 from typing import NamedTuple
 
@@ -38,19 +39,20 @@ from case import (
     case_of,
     checking,
     flat,
+    grouped,
     line,
     listed,
     measured,
-    numbers_of,
     operations,
     paired,
     planning,
     read,
     replaying,
     testing,
+    width,
 )
 from library import Fault, Library, Outcome, fields, shared_object
-from reading import LENGTHS, METHODS, MOST, MOST_PANEL, NO_VERDICT, PANEL, TOP, Lengths, Yard
+from reading import LENGTHS, METHODS, MOST, MOST_PANEL, NO_VERDICT, PANEL, TOP, Lengths, Row, Yard
 from reading import all_down, check, deadlock_space, misplaced, plan_space
 from sheets import Sheet, Walk
 
@@ -208,8 +210,8 @@ def every_small() -> Iterator[Case]:
         for now, goal in itertools.product(sheets.arrangements(n), repeat=2):
             for method, more in itertools.product((0, *METHODS, 4), (-plan_space(n), -1, 1)):
                 yield planning(method, now, goal, max(plan_space(n) + more, 0))
-            for more in (-deadlock_space(n), -1, 1):
-                yield testing(now, goal, max(deadlock_space(n) + more, 0))
+            for space in {0, 2 * n, *(deadlock_space(n) + more for more in (-1, 1))} - {-1}:
+                yield testing(now, goal, space)
             for one in pairs:
                 yield replaying(now, goal, one)
             for one, two in itertools.product(pairs, repeat=2):
@@ -286,6 +288,7 @@ def randoms(trial: Trial, rng: Random, number: int, sizes: tuple[int, int]) -> I
             yield from operations(now, damaged(rng, goal), [1, 0])
         yield planning(rng.choice(METHODS), now, goal, plan_space(n) - 1)
         yield planning(rng.choice(METHODS), now, goal, plan_space(n) + rng.randint(1, 9))
+        yield testing(now, goal, 2 * n)
         yield testing(now, goal, deadlock_space(n) - 1)
         yield testing(now, goal, deadlock_space(n) + rng.randint(1, 9))
 
@@ -296,8 +299,8 @@ def keeps(trial: Trial, sheet: promises.Searched, cases: Iterable[Case]) -> None
         made = trial.compare(case)
         if isinstance(made, str):
             continue
-        pairs = paired(made.space[: 2 * made.numbers[2]]) if case.space else []
-        unkept = promises.unkept(sheet, case, made.numbers, pairs)
+        written = grouped(made.space[: width(case) * made.numbers[2]], width(case)) if case.space else []
+        unkept = promises.unkept(sheet, case, Answer(made.numbers, written))
         trial.count(not unkept, case, lambda: "; ".join(unkept))
 
 
@@ -374,7 +377,7 @@ def measured_randoms(trial: Trial, rng: Random, number: int, sizes: tuple[int, i
         for some in (lengths, bad):
             method = rng.choice((0, *METHODS, 4))
             tight = planning(method, now, goal, plan_space(n) - 1), testing(now, goal, deadlock_space(n) - 1)
-            yield from measured([*tight, replaying(now, goal, [1])] if n else [], some)
+            yield from measured([*tight, testing(now, goal, 2 * n), replaying(now, goal, [1])] if n else [], some)
             yield from measured(operations(now, goal, hasty), some, rng.randint(0, TOP))
 
 
@@ -493,9 +496,9 @@ def refused_sheets(n: int) -> Iterator[Stated]:
 
 
 def planned_sheets(n: int) -> Iterator[Stated]:
-    """Sheets of two slabs and more with their lists in closed form, without lengths, with equal and falling ones."""
+    """Sheets of four slabs and more with their lists in closed form, without lengths, with equal and falling ones."""
     ground, tower, built = [0] * n, sheets.tower(n), [(slab, slab - 1) for slab in range(2, n + 1)]
-    for make in (sheets.turned, sheets.ring, *[sheets.exchanged] * (n % 4 == 0)):
+    for make in (sheets.turned, sheets.ring, sheets.begun, *[sheets.exchanged] * (n % 4 == 0)):
         known = make(n)
         answers = [Answer((0, 0, len(pairs), known.misplaced()), pairs) for pairs in map(known.pairs, METHODS)]
         for lengths in (None, [TOP] * n):
@@ -551,6 +554,28 @@ def hold_limits(trial: Trial, rng: Random) -> None:
     trial.run(measured_randoms(trial, rng, 4, (MOST_PANEL - 1, MOST_PANEL + 1)))
 
 
+# ---- where the good part of a goal pile ends
+
+
+def hold_rows(trial: Trial, now: Yard, goal: Yard, rows: list[Row]) -> None:
+    """Holds the rows of a deadlock, in every space about 3 × n and with equal lengths; less is refused by 10."""
+    n, found, none = len(now), Answer((0, 0, len(rows)), rows), Answer((10, 0, 0), [])
+    for space in (0, 2 * n, 3 * n - 1, 3 * n, 3 * n + 1, 4 * n):
+        case, stated = testing(now, goal, space), found if space >= 3 * n else none
+        for one in (case, *measured([case], [300] * n), *measured([case], [300, 200], 0)):
+            hold(trial, one, stated)
+
+
+def hold_good_parts(trial: Trial, rng: Random) -> None:
+    """Holds the rows of sheets by hand, also by other numbers, and of closed forms up to a full yard."""
+    for part in sheets.GOOD_PARTS:
+        hold_rows(trial, part.now, part.goal, part.rows)
+        trial.run(operations(*sheets.renumbered(rng, part.now, part.goal)))
+    for make, few in sheets.KNOWN:
+        for known in map(make, (*few, MOST_PANEL, MOST)):
+            hold_rows(trial, known.now, known.goal, known.loop)
+
+
 def large(trial: Trial, rng: Random) -> Iterator[Case]:
     """Random sheets of 100 slabs to a full yard, the largest sizes, and the hard families, also renumbered."""
     yield from randoms(trial, rng, LARGE_SHEETS, (100, MOST))
@@ -592,7 +617,7 @@ def hostile(rng: Random) -> Iterator[Case]:
             yield from operations(now, goal, [1])
     for space in (0, 1, *(plan_space(n) + more for more in (-1, 0, 1)), LONG):
         yield planning(2, sound, [0] * n, space)
-    for space in (0, 1, *(deadlock_space(n) + more for more in (-1, 0, 1)), LONG):
+    for space in (0, 1, 2 * n, *(deadlock_space(n) + more for more in (-1, 0, 1)), LONG):
         yield testing(sound, [0] * n, space)
     for lifts in ([1], [0, 0], [TOP, TOP], [1, TOP], [n, 0, 1], [n + 1, 0], [n, n + 1], [n, n]):
         yield replaying(sound, [0] * n, lifts)
@@ -635,10 +660,18 @@ def stated_check(case: Case, stated: Answer) -> Answer | None:
     return Answer((number, named["place"]) if number in (*range(2, 10), 16, 17, 18) else (0, 0), [])
 
 
+def filled(stated: str, right: Sequence[int]) -> list[int]:
+    """The numbers of a list as a line states it, with the reading's for each that it leaves open."""
+    words = [] if stated in ("-", "") else stated.split(",")
+    known = dict(enumerate(right))
+    return [known.get(at, -1) if word == UNSTATED else int(word) for at, word in enumerate(words)]
+
+
 def given(trial: Trial, lines: Iterable[str]) -> None:
     """Runs lines; where one states an answer after `=>`, holds the outcome to it, and `check` to what follows.
 
-    The lines of document 01 do not state the last number of a plan that is made: document 02, Job 2, has another one.
+    Lines from before a request leave open what it has changed: of a plan that is made the last number (document 02,
+    Job 2), and of a deadlocked slab the third (Job 6).
     """
     for text in filter(str.strip, lines):
         wanted, _, after = text.partition("=>")
@@ -646,13 +679,14 @@ def given(trial: Trial, lines: Iterable[str]) -> None:
         if not after:
             print(told(trial.compare(case)))
             continue
-        front, _, pairs = after.partition("|")
-        numbers = tuple(numbers_of(front.strip().replace(UNSTATED, listed(read(case).numbers[-1:]))))
+        front, _, behind = after.partition("|")
+        right = read(case)
+        numbers = tuple(filled(front.strip(), right.numbers))
         if case.operation == "replay":
             numbers = (numbers[0], NO_VERDICT, numbers[1]) if len(numbers) == 2 else (0, *numbers[2:])
-        stated = Answer(numbers, paired(numbers_of((pairs.split() or ["-"])[0])))
+        stated = Answer(numbers, grouped(filled((behind.split() or ["-"])[0], flat(right.written)), width(case)))
         hold(trial, case, stated)
-        if shortest := re.search(r"shortest=(\d+)", pairs):
+        if shortest := re.search(r"shortest=(\d+)", behind):
             fewest, count = int(shortest[1]), stated.numbers[2]
             trial.count(fewest <= count <= 2 * fewest, case, lambda: f"{count} lifts, where {fewest} are the fewest")
         checked = stated_check(case, stated)
@@ -686,6 +720,7 @@ def tests(trial: Trial, seed: int) -> None:
         ("lengths, hostile", lambda rng: trial.run(measured_hostile())),
         (f"lengths, 100 to {MOST:,} slabs", lambda rng: trial.run(measured_large(trial, rng))),
         ("both entries at their limits", lambda rng: hold_limits(trial, rng)),
+        ("where good parts end", lambda rng: hold_good_parts(trial, rng)),
         ("hostile", lambda rng: trial.run(hostile(rng))),
         ("long lists", lambda rng: trial.run(long_lists(rng))),
         (f"100 to {MOST:,} slabs", lambda rng: trial.run(large(trial, rng))),

@@ -1,9 +1,9 @@
 """Holds the pages of docs/ to what they speak of, and runs the tests of the tools.
 
 crates/: each statement of specs/ has a proof in proofs/ of its crate. docs/WHY.md: each theorem or law stands in the
-lines that the page names, each sheet has the lists, counts and verdicts that the page states, the five piles have their
-lifts and reasons (all by reading.py), the table of mean lifts is the library's for its seed (means.py), each picture is
-what tools/draw makes of its sheet; where another page says what a sheet reads and takes, it says the same.
+lines that the page names, each sheet has the lists, counts, rows and verdicts that the page states, the five piles have
+their lifts and reasons (all by reading.py), the table of mean lifts is the library's for its seed (means.py), each
+picture is what tools/draw makes of its sheet; where another page says what a sheet reads and takes, it says the same.
 docs/CLASSROOM.md: what is to be changed stands there once, its sheet has the numbers that the page states, and the
 sheets for a course are those of their seed. docs/DEMANDS.md: each file, definition, function and must-fail edit that it
 names exists. The tests of the tools are those of commands.py, pictures.py and page_data.py.
@@ -162,7 +162,7 @@ class Row(NamedTuple):
     name: str
     line: str
     misplaced: str
-    pairs: str
+    ring: str
     lifts: str
     counts: str
     fewest: str
@@ -242,6 +242,11 @@ def fewest(now: Yard, goal: Yard) -> int:
     return lifts
 
 
+def ring_line(now: Yard, goal: Yard) -> str:
+    """The rows of the deadlock test as a page writes them; nothing without a deadlock."""
+    return ", ".join(" ".join(map(str, row)) for row in read(testing(now, goal)).rows)
+
+
 def misstated(row: Row) -> str:
     """Where a row differs from the reading."""
     now, goal = row.sheet()
@@ -249,7 +254,7 @@ def misstated(row: Row) -> str:
         row.name,
         row.line,
         str(len(reading.misplaced(now, goal))),
-        ", ".join(f"{slab} {d}" for slab, d in read(testing(now, goal)).pairs),
+        ring_line(now, goal),
         list_line(read(planning(2, now, goal)).pairs),
         ", ".join(str(read(planning(method, now, goal)).numbers[2]) for method in METHODS),
         str(fewest(now, goal)),
@@ -467,6 +472,25 @@ def five_piles() -> Iterator[Test]:
     yield "WHY.md, the loop of the five piles", f"{missing} is not said" if missing else ""
 
 
+def good_parts() -> Iterator[Test]:
+    """The rows that the steps show, and on the sheet "grows" what goes home before it stalls, by the reading."""
+    text, known = text_of(WHY), {name: row.sheet() for name, row in rows().items()}
+    now, goal = known["grows"]
+    home, slab = reading.constructive(now, goal), read(testing(now, goal)).rows[0][0]
+    said = [
+        f"`{ring_line(*known['S4'])}` for S4, `{ring_line(*known['S5'])}` for S5",
+        "It is read when the yard stalls, and not at the start.",
+        f'On the sheet "grows" slab {home} goes home onto {goal[home - 1]} before that, and the row is '
+        f"`{ring_line(now, goal)}`; at the start the goal pile of {slab} is in position only up to "
+        f"{reading.position(now, goal, slab)}:",
+    ]
+    yield "WHY.md, the rows of step 3", lacking(section(text, "3. What a deadlock is"), said)
+    stalls = "7. Why a stalled yard always shows its loop"
+    yield "WHY.md, the rows of step 7", lacking(section(text, stalls), [f"here `{ring_line(*known['five'])}`"])
+    ends = [f"deadlock rows {ring_line(*known['S4'])} |", f"deadlock row {ring_line(*known['S5'])} |"]
+    yield "SPECIFICATION.md, the rows", lacking(section(text_of(SPECIFICATION), "Sheets with known ends"), ends)
+
+
 SPELT = ("no", "one", "two", "three", "four", "five", "six", "seven", "eight", "nine")
 
 
@@ -545,8 +569,9 @@ def main() -> int:
             if made:
                 (PICTURES / f"{name}.svg").write_text(made, encoding="utf-8")
     of_tools = [commands.tests({name: row.typed() for name, row in rows().items()}), of_draw.tests(), page_data.tests()]
-    of_why = [references(), page_sheets(), measured_sheets(), head_counts(), waiting(), five_piles(), without_us()]
-    return counted(itertools.chain(proved(), *of_why, pictures(), classroom(), course(), demands(), *of_tools))
+    of_why = [references(), page_sheets(), measured_sheets(), head_counts(), waiting(), five_piles(), good_parts()]
+    of_pages = [without_us(), pictures(), classroom(), course(), demands()]
+    return counted(itertools.chain(proved(), *of_why, *of_pages, *of_tools))
 
 
 if __name__ == "__main__":

@@ -57,7 +57,7 @@ WORDS = {"initial": "now", "out": "space", "state": "out"}
 
 
 class Constant(NamedTuple):
-    """A constant: its number, that of one slab where n is asked for, and the comment above it in one line."""
+    """A constant: its number, of one slab where n is asked for, or that of the constant it names; the comment above."""
 
     number: int
     words: str
@@ -110,7 +110,7 @@ C = Language(
         ABOVE_C + r"^topjeska_(?P<result>\w+)_answer topjeska_(?P<name>\w+)\((?P<body>[^)]*)\);", re.MULTILINE
     ),
     re.compile(
-        ABOVE_C + r"^#define TOPJESKA_(?P<name>\w+)(?: |\(n\) \()(?P<number>\d+)u?(?: \* \(n\)\))?$",
+        ABOVE_C + r"^#define TOPJESKA_(?P<name>\w+)(?: |\(n\) \()(?P<number>\d+|TOPJESKA_[A-Z_]+)u?(?: \* \(n\)\))?$",
         re.MULTILINE,
     ),
     ";",
@@ -130,7 +130,7 @@ RUST = Language(
     ),
     re.compile(
         ABOVE_RUST + r"^(?:pub )?const (?:fn )?(?P<name>\w+)"
-        r"(?:: \w+ = |\(n: usize\) -> usize \{\s+)(?P<number>\d+)(?: \* n$|;$)",
+        r"(?:: \w+ = |\(n: usize\) -> usize \{\s+)(?P<number>\d+|[A-Z_]+)(?: \* n$|;$)",
         re.MULTILINE,
     ),
     ",",
@@ -150,14 +150,22 @@ def one_line(comment: str) -> str:
     return " ".join(re.sub(r"^ *(?:\*|//[/!])", "", comment, flags=re.MULTILINE).split())
 
 
+def constants_of(language: Language, text: str) -> dict[str, Constant]:
+    """The constants of a text by name; without those that name one which has no number of its own there."""
+    found = {match["name"].upper(): match for match in language.constant.finditer(text)}
+    numbers = {name: int(match["number"]) for name, match in found.items() if match["number"].isdigit()}
+    named = {name: match["number"].removeprefix("TOPJESKA_") for name, match in found.items() if name not in numbers}
+    numbers |= {name: numbers[other] for name, other in named.items() if other in numbers}
+    return {name: Constant(number, one_line(found[name]["words"] or "")) for name, number in numbers.items()}
+
+
 def declared(language: Language, text: str) -> Interface:
     """What a text declares."""
     structs, functions = language.struct.finditer(text), language.function.finditer(text)
-    constants = language.constant.finditer(text)
     return Interface(
         {found["name"].lower(): listed(language, found["body"], language.field_end) for found in structs},
         {found["name"]: (found["result"].lower(), listed(language, found["body"], ",")) for found in functions},
-        {found["name"].upper(): Constant(int(found["number"]), one_line(found["words"] or "")) for found in constants},
+        constants_of(language, text),
     )
 
 
@@ -263,7 +271,8 @@ NAMED = {
     "LENGTHS": LENGTHS,
     "PANEL": PANEL,
     "PLAN_SPACE": reading.plan_space(1),
-    "DEADLOCK_SPACE": reading.deadlock_space(1),
+    "DEADLOCK_WIDTH": reading.WIDTH,
+    "DEADLOCK_ROOM": reading.deadlock_space(1),
     **{f"METHOD_{name}": number for number, name in rules.METHODS.items()},
 }
 WORDED = {
@@ -321,6 +330,11 @@ ROOMS = [
     f"at most {reading.plan_space(rules.MOST):,} by the yard office's",
     f"{reading.plan_space(rules.MOST_PANEL):,} by the panel's",
 ]
+IN_A_ROW = [
+    "the slab through which the next one is in its way",
+    "the nearest slab beneath that slab of the deadlock in its goal pile that is in position once all constructive "
+    "lifts are made and the yard stalls, 0 for the ground",
+]
 TOLD = {
     "opening": [
         "entry i - 1 says what slab i rests on, 0 for the ground",
@@ -334,7 +348,8 @@ TOLD = {
     "constant lengths": ["without this bit the lengths are not looked at"],
     "constant panel": ["planning alone looks at this bit"],
     "constant plan_space": ["the numbers of lent space", *ROOMS],
-    "constant deadlock_space": ["the numbers of lent space"],
+    "constant deadlock_width": ["the numbers that the deadlock test writes for a slab", "begins at deadlock_width * i"],
+    "constant deadlock_room": ["the numbers of lent space"],
     "constant stack_bytes": [f"as long for a few slabs as for {rules.MOST:,}, by the panel's entry too"],
     "struct plan": [
         "the count of slabs that are misplaced at the start",
@@ -353,14 +368,18 @@ TOLD = {
         "refusal_panel is asked directly after refusal_too_many",
         "both entries give equal answers and leave equal space",
     ],
-    "function deadlock": ["as pairs: the slab, and the slab through which the next one is in its way"],
+    "function deadlock": [
+        "as rows of three: a slab of the deadlock;",
+        *IN_A_ROW,
+        "what lies behind the rows keeps what it held",
+    ],
     "function check_with": ["with lengths 16, 17 and 18"],
     "function plan_with": [
         "with panel as topjeska_plan_panel",
         "a sheet that is accepted with lengths has the same list with them and without",
         "compares it with lists that are legal with lengths",
     ],
-    "function deadlock_with": ["a sheet that is accepted with lengths has the same pairs with them and without"],
+    "function deadlock_with": ["a sheet that is accepted with lengths has the same rows with them and without"],
     "function replay_with": ["every lift is tested for verdict_too_long, after verdict_taken"],
     "struct generator": ["the same sheets on every machine", "one that is not 0 never becomes 0"],
     "function training": ["what lies behind its n numbers keeps what it held", *COUNTS],
@@ -399,17 +418,22 @@ def untold(header: str) -> list[str]:
     return [f"{of}: {part}" for of, parts in TOLD.items() for part in parts if part not in words.get(of, "")]
 
 
-def unpromised() -> list[str]:
-    """What the safe wrapper should say of its count of misplaced slabs and does not."""
-    found = re.search(r"((?: *///.*\n)+) *pub misplaced: u64,", SAFE.read_text())
-    words = one_line(found[1]).lower() if found else ""
-    return [part for part in TOLD["struct plan"] if part not in words]
+# What the safe wrapper must say above its own declarations.
+TOLD_SAFELY = {"misplaced: u64,": TOLD["struct plan"], "type DeadlockRow =": ["a slab of the deadlock;", *IN_A_ROW]}
+
+
+def unpromised() -> Iterator[str]:
+    """What the safe wrapper should say of its count of misplaced slabs and of its rows, and does not."""
+    for declaration, parts in TOLD_SAFELY.items():
+        found = re.search(rf"((?: *///.*\n)+) *pub {declaration}", SAFE.read_text())
+        words = one_line(found[1]).lower() if found else ""
+        yield from (part for part in parts if part not in words)
 
 
 def comments_wrong() -> Iterator[tuple[str, list[str]]]:
     """What is wrong with the comments."""
     header, wrapper = HEADER.read_text(), WRAPPER.read_text()
-    yield "what the safe wrapper's comment on the misplaced must say", unpromised()
+    yield "what the safe wrapper's comments must say", list(unpromised())
     yield "the comments of the header and the Rust wrapper", misworded(header, wrapper)
     yield "what the header's comments must say", untold(header)
 
@@ -470,9 +494,9 @@ def replaced(text: str, found: re.Match[str], number: str) -> str:
 
 def renumbered(path: Path) -> Iterator[tuple[str, str]]:
     """A file with the numbers of two constants exchanged, each time with what was done."""
-    text = path.read_text()
+    text, constants = path.read_text(), interface(path).constants
     for one, other in itertools.combinations(LANGUAGES[path].constant.finditer(text), 2):
-        if one["number"] != other["number"]:
+        if constants[one["name"].upper()].number != constants[other["name"].upper()].number:
             done = replaced(replaced(text, other, one["number"]), one, other["number"])
             yield f"{path.name}: {one['name']} and {other['name']}", done
 

@@ -24,8 +24,8 @@ class Outcome(NamedTuple):
 
     @classmethod
     def of(cls, answer: Answer, length: int) -> "Outcome":
-        """The outcome of an answer whose pairs go to the front of a space of a length."""
-        return cls(answer.numbers, written(flat(answer.pairs), length))
+        """The outcome of an answer whose pairs or rows go to the front of a space of a length."""
+        return cls(answer.numbers, written(flat(answer.written), length))
 
 
 class Fault(Exception):

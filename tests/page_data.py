@@ -20,7 +20,7 @@ from typing import Any, NamedTuple
 
 import reading
 import sheets
-from reading import METHODS, Lengths, Pair, Yard
+from reading import METHODS, Lengths, Pair, Row, Yard
 from tested import ROOT, Test, counted, sheet_line, sheet_of, unlike
 
 TOOL = ROOT / "tools" / "page"
@@ -73,7 +73,7 @@ class Shot(NamedTuple):
 
     yard: list[int]
     misplaced: list[int]
-    loop: list[Pair]
+    loop: list[Row]
     waits: list[Wait]
 
 
@@ -118,7 +118,7 @@ def misreasoned(reason: str, method: int, lift: Pair, before: Shot, after: Shot)
         return unlike(reason, "home")
     if method == 1:
         return "" if reason.startswith("put down") else f"{reason!r} for a slab that is put down"
-    loop = [one for one, _ in before.loop]
+    loop = [one for one, _, _ in before.loop]
     first, _, rest = reason.partition(";")
     numbers = [int(number) for number in re.findall(r"\d+", first)]
     right = loop if len(loop) <= NAMED else [*loop[:NAMED], len(loop) - NAMED]
@@ -140,7 +140,8 @@ def some_sheets() -> list[tuple[Yard, Yard, Lengths]]:
     """The sheets whose pages are read: stated ones, those of the classroom, random ones, and some with lengths."""
     rng = random.Random(sheets.SEED)
     drawn = [sheets.random_sheet(rng, 2 + number % 11, number % 3) for number in range(RANDOM_SHEETS)]
-    known = [sheets.ring(27)[:2], sheets.exchanged(12)[:2]]
+    known = [sheets.ring(27)[:2], sheets.exchanged(12)[:2], sheets.begun(12)[:2]]
+    known += [part.sheet() for part in sheets.GOOD_PARTS]
     bare = [*sheets.STATED, *sheets.TRIALS, sheet_of(FIVE), *thirty().values(), *known, *drawn]
     found: list[tuple[Yard, Yard, Lengths]] = [(now, goal, None) for now, goal in bare]
     for number in range(RANDOM_SHEETS // 4):
@@ -169,7 +170,7 @@ def mislisted(told: Data, method: int, now: Yard, goal: Yard) -> str:
     """Where a method's answer in a page differs from the reading."""
     pairs, right = listed(method, now, goal), shots(method, now, goal)
     counts = {str(m): len(listed(m, now, goal)) for m in METHODS}
-    ring = [list(pair) for pair in reading.deadlock(now, goal, reading.deadlock_space(len(now)))[3]]
+    ring = [list(row) for row in reading.deadlock(now, goal, reading.deadlock_space(len(now)))[3]]
     astray = right[0].misplaced
     numbers = [len(pairs), len(astray), astray, reading.floor(now, goal), counts, ring]
     found = [told.get(key) for key in ("count", "head", "misplaced", "floor", "counts", "deadlock")]

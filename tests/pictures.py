@@ -722,19 +722,19 @@ def misdrawn_ring(now: Yard, goal: Yard, lengths: Lengths = None) -> str:
     """What is wrong with the picture of a deadlock, or of none."""
     line = sheet_line(now, goal, lengths)
     ended = drawing("--ring", line)
-    picture, pairs = Picture(ended.stdout), read(testing(now, goal)).pairs
-    ring, between = {slab for slab, _ in pairs}, {through for _, through in pairs}
+    picture, rows = Picture(ended.stdout), read(testing(now, goal)).rows
+    ring, between = {slab for slab, _, _ in rows}, {through for _, through, _ in rows}
     right = right_frames(now, goal, [])
-    arrows = {slab: (after, "ring") for (slab, _), (after, _) in zip(pairs, [*pairs[1:], *pairs[:1]])}
+    arrows = {slab: (after, "ring") for (slab, _, _), (after, _, _) in zip(rows, [*rows[1:], *rows[:1]])}
     for key, frame in right.items():
         for slab, look in frame.looks.items():
             look.discard("loop")
             look.update(name for name, some in (("ring", ring), ("between", between)) if slab in some)
         right[key] = frame._replace(arrows=arrows if key == "0" else {})
-    size = "one slab" if len(pairs) == 1 else f"{len(pairs)} slabs"
-    counts = right_counts(now, goal, f"a ring of {size}" if pairs else "no deadlock")
+    size = "one slab" if len(rows) == 1 else f"{len(rows)} slabs"
+    counts = right_counts(now, goal, f"a ring of {size}" if rows else "no deadlock")
     cost = right_cost(now, goal) if reading.misplaced(now, goal) else "nothing is misplaced"
-    sentences = [*(right_some(ring_words(now, goal)) if pairs else ["no deadlock"]), cost]
+    sentences = [*(right_some(ring_words(now, goal)) if rows else ["no deadlock"]), cost]
     return misshown(picture, right, line, counts, sentences, lengths) or unlike(ended.returncode, 0)
 
 
@@ -813,6 +813,7 @@ def rings_and_loops() -> Iterator[Test]:
     """--ring and --loop of sheets with a deadlock and without."""
     rng = random.Random(sheets.SEED)
     some = [*sheets.STATED, *sheets.TRIALS, FIVE, WAITS, TWO_LOOPS]
+    some += [*(part.sheet() for part in sheets.GOOD_PARTS), sheets.begun(30)[:2]]
     some += [sheets.random_sheet(rng, 6 + k, k % 3) for k in range(8)]
     some += [sheets.renumbered(rng, *sheets.ring(n)[:2]) for n in (9, 31, 135)]
     some += [sheets.copies(*WAITS, n) for n in (12, 18, 90)] + [sheets.exchanged(12)[:2]]

@@ -1,15 +1,16 @@
 """Demands 2 and 3 on a small accepted sheet: what a list, a count, a verdict and a deadlock answer keep, by search.
 
-With lengths the comparison is with lists that are legal under their rule. And document 02, Job 4, on any accepted
-sheet: how many lifts method 1 takes, and that no method takes more.
+With lengths the comparison is with lists that are legal under their rule. Of a deadlock answer also document 02, Job 6:
+where the good part of each goal pile ends when the yard stalls. And document 02, Job 4, on any accepted sheet: how many
+lifts method 1 takes, and that no method takes more.
 """
 
 from collections.abc import Mapping, Sequence
 from typing import NamedTuple
 
 import reading
-from case import PLANNING, Case, paired
-from reading import Lengths, Pair, Yard
+from case import PLANNING, Answer, Case, paired
+from reading import Lengths, Pair, Row, Yard
 
 
 class Searched(NamedTuple):
@@ -57,16 +58,48 @@ def unkept_beside_us(named: int, lifts: Mapping[int, int]) -> list[str]:
     return more + [f"method 1 takes {lifts[1]} lifts, document 02 names {named}"] * (lifts[1] != named)
 
 
-def unkept_by_test(sheet: Searched, pairs: Sequence[Pair]) -> list[str]:
-    """What the pairs of a deadlock answer break; and a deadlock costs every list a lift."""
+def stands(yard: Yard, goal: Yard, slab: int) -> bool:
+    """Whether a slab is in position: from it down to the ground there is what is there in the goal."""
+    return reading.beneath(yard, slab) == reading.beneath(goal, slab)
+
+
+def when_stalled(sheet: Searched) -> list[int]:
+    """The yard after all constructive lifts, the highest slab first: their order does not change where they end."""
+    yard, goal = list(sheet.now), sheet.goal
+    while True:
+        wished = [lift for lift in reading.all_lifts(yard, sheet.lengths) if lift[1] == goal[lift[0] - 1]]
+        home = [lift for lift in wished if stands(reading.lifted(yard, *lift), goal, lift[0])]
+        if not home:
+            return yard
+        yard = reading.lifted(yard, *home[-1])
+
+
+def misnamed(yard: Yard, goal: Yard, row: Row) -> bool:
+    """Whether a row of a stalled yard names others than c, and beside it c where it carries a slab, else d.
+
+    c is the ground or in position and beneath the slab in its goal pile, and every slab from that one down to c is not.
+    """
+    slab, through, c = row
+    pile = [slab, *reading.beneath(goal, slab), 0]
+    if c not in pile[1:]:
+        return True
+    above = pile[: pile.index(c)]
+    ends = (c == 0 or stands(yard, goal, c)) and not any(stands(yard, goal, one) for one in above)
+    return not ends or through != (c if c and c in yard else above[-1])
+
+
+def unkept_by_test(sheet: Searched, rows: Sequence[Row]) -> list[str]:
+    """What the rows of a deadlock answer break; and a deadlock costs every list a lift."""
     wrong: list[str] = []
+    pairs = [(slab, through) for slab, through, _ in rows]
     if sheet.deadlocked and sheet.fewest <= len(reading.misplaced(sheet.now, sheet.goal)):
         wrong.append("a deadlock costs no lift")
-    if bool(pairs) != sheet.deadlocked or reading.shows_deadlock(sheet.now, sheet.goal, pairs) != sheet.deadlocked:
-        wrong.append("the deadlock test differs from the definition")
-    if pairs and pairs[0] != min(pairs):
+    if bool(rows) != sheet.deadlocked or reading.shows_deadlock(sheet.now, sheet.goal, pairs) != sheet.deadlocked:
+        return [*wrong, "the deadlock test differs from the definition"]
+    if rows and rows[0] != min(rows):
         wrong.append("the loop is not written from its lowest number")
-    return wrong
+    yard = when_stalled(sheet)
+    return wrong + [f"{row} in the stalled yard {yard}" for row in rows if misnamed(yard, sheet.goal, row)]
 
 
 def unkept_by_count(sheet: Searched, misplaced: int) -> list[str]:
@@ -84,10 +117,10 @@ def unkept_by_verdict(sheet: Searched, lifts: Sequence[int], numbers: Sequence[i
     return [f"{numbers} for a list of which it is {right} that it arrives"] if (numbers[:2] == (0, 0)) != right else []
 
 
-def unkept(sheet: Searched, case: Case, numbers: Sequence[int], pairs: Sequence[Pair]) -> list[str]:
-    """What the numbers and pairs of a case of planning, of the deadlock test or of replay break."""
+def unkept(sheet: Searched, case: Case, made: Answer) -> list[str]:
+    """What the answer to a case of planning, of the deadlock test or of replay breaks."""
     if case.operation in PLANNING:
-        return unkept_by_list(sheet, case.method, pairs) + unkept_by_count(sheet, numbers[3])
+        return unkept_by_list(sheet, case.method, made.pairs) + unkept_by_count(sheet, made.numbers[3])
     if case.operation == "deadlock":
-        return unkept_by_test(sheet, pairs)
-    return unkept_by_verdict(sheet, case.lifts, numbers)
+        return unkept_by_test(sheet, made.rows)
+    return unkept_by_verdict(sheet, case.lifts, made.numbers)

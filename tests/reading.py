@@ -1,8 +1,8 @@
 """Document 01 read literally: the questions, the three methods, the deadlock test and replay.
 
-Of document 02 training, lengths, how many lifts method 1 takes, and the panel's entry. An arrangement is a list of n
-numbers: entry i - 1 says what slab i rests on, 0 for the ground. Lengths are None where a sheet has none, which is not
-the same as a list of none.
+Of document 02 training, lengths, how many lifts method 1 takes, the panel's entry, and what the position test names.
+An arrangement is a list of n numbers: entry i - 1 says what slab i rests on, 0 for the ground. Lengths are None where a
+sheet has none, which is not the same as a list of none.
 Each function follows its sentence and none is meant to be fast. `shortest` and `deadlocked`
 decide by search what the document only defines.
 """
@@ -14,16 +14,18 @@ from collections.abc import Sequence
 
 Yard = Sequence[int]
 Pair = tuple[int, int]
+Row = tuple[int, int, int]
 Lengths = Sequence[int] | None
 
 # The most slabs of a sheet, by the panel's entry and of a training sheet, the highest 16-bit number, the numbers of the
-# methods, what a refused replay has in place of a verdict, and the bits of options: that a sheet has lengths, and that
-# planning is the panel's.
+# methods, how many numbers the deadlock test writes of a slab, what a refused replay has in place of a verdict, and the
+# bits of options: that a sheet has lengths, and that planning is the panel's.
 MOST = 4000
 MOST_PANEL = 600
 MOST_TRAINED = 16
 TOP = 65535
 METHODS = (1, 2, 3)
+WIDTH = 3
 NO_VERDICT = 65535
 LENGTHS = 1
 PANEL = 2
@@ -65,9 +67,20 @@ def top(yard: Yard, slab: int) -> int:
     return slab
 
 
+def position(now: Yard, goal: Yard, slab: int) -> int | None:
+    """The position test: None in position; of a misplaced slab the nearest beneath it in the goal pile that is, or 0.
+
+    A slab is in position when it and every slab beneath it rest now on what they rest on in the goal.
+    """
+    place = slab
+    while place != 0 and any(now[s - 1] != goal[s - 1] for s in [place, *beneath(now, place)]):
+        place = goal[place - 1]
+    return None if place == slab else place
+
+
 def in_position(now: Yard, goal: Yard, slab: int) -> bool:
-    """Whether it and every slab beneath it rest now on what they rest on in the goal."""
-    return all(now[s - 1] == goal[s - 1] for s in [slab, *beneath(now, slab)])
+    """Whether the position test names nothing."""
+    return position(now, goal, slab) is None
 
 
 def misplaced(now: Yard, goal: Yard) -> list[int]:
@@ -112,13 +125,9 @@ def lifted(yard: Yard, slab: int, destination: int) -> list[int]:
 
 
 def is_constructive(now: Yard, goal: Yard, slab: int, lengths: Lengths = None) -> bool:
-    """Whether a misplaced slab has a lift to its goal support, the ground or a slab in position."""
+    """Whether a misplaced slab has a lift to its goal support, the ground or a slab in position: c is that support."""
     support = goal[slab - 1]
-    return (
-        not in_position(now, goal, slab)
-        and is_lift(now, slab, support, lengths)
-        and (support == 0 or in_position(now, goal, support))
-    )
+    return position(now, goal, slab) == support and is_lift(now, slab, support, lengths)
 
 
 def constructive(now: Yard, goal: Yard, lengths: Lengths = None) -> int:
@@ -175,19 +184,22 @@ def check(now: Yard, goal: Yard, lengths: Lengths = None, most: int = MOST) -> t
 
 
 def foot(now: Yard, goal: Yard, slab: int) -> Pair:
-    """c, the first slab in position down a slab's goal pile, or the ground, and d, what rests on c in that pile."""
-    d = slab
-    c = goal[slab - 1]
-    while c != 0 and not in_position(now, goal, c):
-        d = c
-        c = goal[c - 1]
-    return c, d
+    """c, which the position test names of a misplaced slab, and d, what rests on c in its goal pile."""
+    c = position(now, goal, slab)
+    if c is None:
+        raise ValueError(f"slab {slab} is in position")
+    return c, next(d for d in [slab, *beneath(goal, slab)] if goal[d - 1] == c)
+
+
+def row(now: Yard, goal: Yard, slab: int) -> Row:
+    """A slab, the slab through which its successor is in its way (c when c is not clear, else d), and c."""
+    c, d = foot(now, goal, slab)
+    return slab, d if clear(now, c) else c, c
 
 
 def in_the_way(now: Yard, goal: Yard, slab: int) -> int:
-    """The slab through which its successor is in a slab's way: c when c is not clear, else d."""
-    c, d = foot(now, goal, slab)
-    return d if clear(now, c) else c
+    """The slab through which its successor is in a slab's way."""
+    return row(now, goal, slab)[1]
 
 
 def visits(now: Yard, goal: Yard, slab: int) -> tuple[list[int], list[int]]:
@@ -239,7 +251,7 @@ def plan_space(n: int) -> int:
 
 def deadlock_space(n: int) -> int:
     """How many numbers of lent space the deadlock test needs."""
-    return 2 * n
+    return WIDTH * n
 
 
 def plan(
@@ -259,8 +271,8 @@ def plan(
     return 0, 0, len(pairs), len(misplaced(now, goal)), pairs
 
 
-def deadlock(now: Yard, goal: Yard, space_len: int, lengths: Lengths = None) -> tuple[int, int, int, list[Pair]]:
-    """The deadlock test: number, place, count and the pairs written."""
+def deadlock(now: Yard, goal: Yard, space_len: int, lengths: Lengths = None) -> tuple[int, int, int, list[Row]]:
+    """The deadlock test: number, place, count and the rows written, each as the yard stands when it stalls."""
     number, place = check(now, goal, lengths)
     if number != 0:
         return number, place, 0, []
@@ -274,7 +286,7 @@ def deadlock(now: Yard, goal: Yard, space_len: int, lengths: Lengths = None) -> 
     found = loop(yard, goal)
     lowest = found.index(min(found))
     turned = found[lowest:] + found[:lowest]
-    return 0, 0, len(turned), [(s, in_the_way(yard, goal, s)) for s in turned]
+    return 0, 0, len(turned), [row(yard, goal, s) for s in turned]
 
 
 def lift_fault(yard: Yard, slab: int, destination: int, lengths: Lengths = None) -> int:

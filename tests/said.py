@@ -9,7 +9,7 @@ from typing import Any
 
 import reading
 from case import planning, read, testing
-from reading import METHODS, VERDICTS, Lengths, Pair, Yard
+from reading import METHODS, VERDICTS, Lengths, Pair, Row, Yard
 from tested import list_line, sheet_line
 
 # So many slabs are named before the rest is only counted, and so many links of a ring are spelled out.
@@ -55,14 +55,14 @@ def right_lifts(method: int, now: Yard, goal: Yard, pairs: Sequence[Pair]) -> li
     for slab, destination in pairs:
         home = reading.is_constructive(yard, goal, slab) and destination == goal[slab - 1]
         stalled = bool(reading.misplaced(yard, goal)) and not reading.constructive(yard, goal)
-        ring = read(testing(yard, goal)).pairs if stalled else []
-        loop = [one for one, _ in ring]
+        ring = ring_of(yard, goal) if stalled else []
+        loop = [one for one, _, _ in ring]
         why = "home" if home else "put down, the first part of method 1"
         if not home and method != 1:
             other = "" if slab in loop else f"; {slab} {apart(yard, goal, slab, loop)}"
             why = f"stalled, loop {numbered(loop)}{other}"
         lift = {"slab": slab, "destination": destination, "home": home}
-        said.append({**lift, "loop": [list(pair) for pair in ring], "reason": why})
+        said.append({**lift, "loop": [list(row) for row in ring], "reason": why})
         yard = reading.lifted(yard, slab, destination)
     return said
 
@@ -73,15 +73,30 @@ def reasons(method: int, now: Yard, goal: Yard, pairs: Sequence[Pair]) -> list[s
     return [lift_words(number, lift["slab"], lift["destination"], lift["reason"]) for number, lift in each]
 
 
+def ring_of(now: Yard, goal: Yard) -> list[Row]:
+    """The rows of the deadlock test; none without a deadlock."""
+    return read(testing(now, goal)).rows
+
+
 def ring_words(now: Yard, goal: Yard) -> list[str]:
     """The links of the deadlock at the start, in words; none without one."""
-    pairs = read(testing(now, goal)).pairs
-    if len(pairs) == 1:
-        return [f"{pairs[0][0]} above {pairs[0][1]} now and in the goal"]
-    after = [*pairs[1:], *pairs[:1]]
+    ring = ring_of(now, goal)
+    if len(ring) == 1:
+        return [f"{ring[0][0]} above {ring[0][1]} now and in the goal"]
+    after = [*ring[1:], *ring[:1]]
     return [
-        f"{slab} shall stand above {d}, and {other} stands above {d} now" for (slab, d), (other, _) in zip(pairs, after)
+        f"{slab} shall stand above {d}, and {other} stands above {d} now"
+        for (slab, d, _), (other, _, _) in zip(ring, after)
     ]
+
+
+def pile_words(now: Yard, goal: Yard) -> list[str]:
+    """Up to where the goal pile of each slab of the deadlock is in position when the yard stalls."""
+    said = []
+    for slab, _, c in ring_of(now, goal):
+        part = f"the goal pile of {slab} is in position up to {c}"
+        said.append(part if c else f"nothing beneath {slab} in its goal pile is in position")
+    return said
 
 
 def counted(number: int, one: str, many: str) -> str:
@@ -98,7 +113,7 @@ def named_slabs(slabs: Sequence[int], are: bool) -> str:
 
 def deadlocked(now: Yard, goal: Yard) -> str:
     """The deadlock that the test shows, and why it is one; empty without one."""
-    slabs, links = [slab for slab, _ in read(testing(now, goal)).pairs], ring_words(now, goal)
+    slabs, links = [slab for slab, _, _ in ring_of(now, goal)], ring_words(now, goal)
     why = "; ".join(links) if len(links) <= LINKED else f"a ring of {len(links)} slabs"
     return f"{named_slabs(slabs, True)} deadlocked ({why})" if slabs else ""
 
@@ -178,13 +193,16 @@ def right_cost(now: Yard, goal: Yard) -> str:
 
 def right_deadlock(now: Yard, goal: Yard, lengths: Lengths = None) -> str:
     """All that the tool should print of a deadlock test, its lines unwrapped."""
-    pairs = read(testing(now, goal)).pairs
-    said = [f"deadlock: {named_slabs([slab for slab, _ in pairs], False)}", *ring_words(now, goal)] if pairs else []
-    if not pairs:
+    ring = ring_of(now, goal)
+    if ring:
+        head = f"deadlock: {named_slabs([slab for slab, _, _ in ring], False)}"
+        stalled = "once all constructive lifts are made and the yard stalls:"
+        said = [head, *ring_words(now, goal), stalled, *pile_words(now, goal)]
+    else:
         said = ["no deadlock" + ("" if reading.misplaced(now, goal) else ": nothing is misplaced")]
     cost = [right_cost(now, goal)] if reading.misplaced(now, goal) else []
-    row = f"pairs: {', '.join(f'{slab} {d}' for slab, d in pairs) or 'none'}"
-    return "\n".join([*said, *cost, row, f"sheet: {sheet_line(now, goal, lengths)}"])
+    rows = f"rows: {', '.join(' '.join(map(str, row)) for row in ring) or 'none'}"
+    return "\n".join([*said, *cost, rows, f"sheet: {sheet_line(now, goal, lengths)}"])
 
 
 def right_accepted(now: Yard, goal: Yard, lengths: Lengths = None) -> str:
@@ -263,7 +281,7 @@ def begun(command: str, now: Yard, goal: Yard, lengths: Lengths = None) -> Objec
 
 def ringed(now: Yard, goal: Yard) -> Object:
     """What most objects say of a sheet."""
-    ring = [list(pair) for pair in read(testing(now, goal)).pairs]
+    ring = [list(row) for row in ring_of(now, goal)]
     return {"misplaced": reading.misplaced(now, goal), "deadlock": ring, "floor": reading.floor(now, goal)}
 
 
@@ -280,7 +298,7 @@ def deadlock_object(now: Yard, goal: Yard, lengths: Lengths = None) -> Object:
     """The object of a deadlock test."""
     ring, astray = deadlocked(now, goal), reading.misplaced(now, goal)
     words = f"deadlock: {ring}" if ring else "no deadlock" + ("" if astray else ": nothing is misplaced")
-    numbers = {"place": 0, "count": len(read(testing(now, goal)).pairs)}
+    numbers = {"place": 0, "count": len(ring_of(now, goal))}
     said = {"words": words, "cost": right_cost(now, goal)}
     return {**begun("deadlock", now, goal, lengths), **ringed(now, goal), **numbers, **said}
 

@@ -1,4 +1,4 @@
-"""Sheets for the tests: those that document 01 states, those whose lists are known in closed form, and random ones."""
+"""Sheets for the tests: those that documents state, those whose answers are known in closed form, and random ones."""
 
 import itertools
 import random
@@ -6,7 +6,7 @@ from collections.abc import Callable, Iterator, Sequence
 from typing import NamedTuple
 
 import reading
-from reading import MOST, Pair, Yard
+from reading import MOST, Pair, Row, Yard
 
 SEED = 4001
 RANDOM_SHEETS = 600
@@ -15,17 +15,17 @@ RANDOM_RINGS = 100
 Sheet = tuple[Yard, Yard]
 
 
-# ---- document 01
+# ---- documents 01 and 02
 
 
 class End(NamedTuple):
-    """A sheet with a known end: the list of a method, and the deadlock pairs where document 01 states them."""
+    """A sheet with a known end: the list of a method, and the deadlock rows where the documents state them."""
 
     now: list[int]
     goal: list[int]
     method: int
     pairs: list[Pair]
-    loop: list[Pair] | None
+    loop: list[Row] | None
 
 
 ENDS = [
@@ -34,9 +34,9 @@ ENDS = [
     End([0, 0, 1], [2, 3, 0], 1, [(3, 0), (2, 3), (1, 2)], None),
     End([0, 0, 1], [2, 3, 0], 2, [(3, 0), (2, 3), (1, 2)], None),
     End([0, 0, 1], [2, 3, 0], 3, [(3, 0), (2, 3), (1, 2)], None),
-    End([2, 0, 4, 0], [4, 0, 2, 0], 2, [(1, 0), (3, 2), (1, 4)], [(1, 4), (3, 2)]),
-    End([2, 3, 0, 5, 0], [5, 0, 0, 3, 2], 2, [(1, 0), (2, 0), (4, 3), (5, 2), (1, 5)], [(1, 2)]),
-    End([2, 3, 0, 5, 0], [5, 0, 0, 3, 2], 3, [(1, 0), (2, 0), (4, 3), (5, 2), (1, 5)], [(1, 2)]),
+    End([2, 0, 4, 0], [4, 0, 2, 0], 2, [(1, 0), (3, 2), (1, 4)], [(1, 4, 4), (3, 2, 2)]),
+    End([2, 3, 0, 5, 0], [5, 0, 0, 3, 2], 2, [(1, 0), (2, 0), (4, 3), (5, 2), (1, 5)], [(1, 2, 0)]),
+    End([2, 3, 0, 5, 0], [5, 0, 0, 3, 2], 3, [(1, 0), (2, 0), (4, 3), (5, 2), (1, 5)], [(1, 2, 0)]),
     End([2, 3, 0], [2, 0, 0], 2, [(1, 0), (2, 0), (1, 2)], None),
 ]
 
@@ -65,17 +65,51 @@ TRIALS: list[Sheet] = [
 ]
 
 
+# ---- where the good part of a goal pile ends
+
+
+class GoodPart(NamedTuple):
+    """A deadlocked sheet by hand: the rows of its test, and c of their slabs as the yard stands at the start."""
+
+    now: list[int]
+    goal: list[int]
+    rows: list[Row]
+    at_start: list[int]
+
+    def sheet(self) -> Sheet:
+        """The sheet."""
+        return self.now, self.goal
+
+
+GOOD_PARTS = [
+    # Nothing goes home before the stall. c is the goal support itself, and carries what is in the way; c is the ground,
+    # beneath one misplaced slab and beneath three; c lies beneath two, and carries what is in the way.
+    GoodPart([2, 0, 4, 0], [4, 0, 2, 0], [(1, 4, 4), (3, 2, 2)], [4, 2]),
+    GoodPart([2, 3, 0], [2, 0, 0], [(1, 2, 0)], [0]),
+    GoodPart([4, 0, 0, 5, 0], [2, 3, 4, 0, 0], [(1, 4, 0)], [0]),
+    GoodPart([6, 0, 0, 0, 4, 0], [2, 3, 4, 0, 6, 0], [(1, 4, 4), (5, 6, 6)], [4, 6]),
+    # Slabs go home onto c, or to the ground, before the stall: one, two, one beneath two misplaced slabs, one to the
+    # ground. In the way is what stands above d, the slab that shall rest on the new c, which is clear.
+    GoodPart([2, 0, 0, 0], [2, 4, 0, 3], [(1, 2, 4)], [3]),
+    GoodPart([2, 0, 0, 0, 0], [2, 5, 0, 3, 4], [(1, 2, 5)], [3]),
+    GoodPart([5, 0, 0, 0, 0], [2, 5, 0, 3, 4], [(1, 5, 4)], [3]),
+    GoodPart([2, 0, 4, 0], [2, 3, 0, 0], [(1, 2, 3)], [0]),
+    # A ring of both kinds: 2 is above c of 1, and 1 above d of 2, whose c goes to the ground before the stall.
+    GoodPart([4, 3, 0, 0, 6, 0], [3, 4, 0, 5, 0, 0], [(1, 3, 3), (2, 4, 5)], [3, 0]),
+]
+
+
 # ---- closed forms, and sheets that are hard in one way
 
 
 class Known(NamedTuple):
-    """A sheet with its lists in closed form: method 1's, that of methods 2 and 3, and the deadlock pairs."""
+    """A sheet with its lists in closed form: method 1's, that of methods 2 and 3, and the deadlock rows."""
 
     now: list[int]
     goal: list[int]
     first: list[Pair]
     others: list[Pair]
-    loop: list[Pair]
+    loop: list[Row]
 
     def pairs(self, method: int) -> list[Pair]:
         """The list of a method."""
@@ -112,7 +146,7 @@ def exchanged(n: int) -> Known:
     down = [(k + s, 0) for k in feet for s in (1, 3)]
     up = [pair for k in feet for pair in ((k + 1, k + 4), (k + 3, k + 2))]
     others = [pair for k in feet for pair in ((k + 1, 0), (k + 3, k + 2), (k + 1, k + 4))]
-    return Known(now, goal, down + up, others, [(1, 4), (3, 2)])
+    return Known(now, goal, down + up, others, [(1, 4, 4), (3, 2, 2)])
 
 
 def ring(n: int) -> Known:
@@ -125,11 +159,24 @@ def ring(n: int) -> Known:
     up = [(slab, goal[slab - 1]) for slab in range(first, foot)]
     down = [(slab, 0) for slab in range(first, foot)]
     last = [(1, 2)] * beside
-    return Known(now, goal, [*down, up[0], *last, *up[1:]], [down[0], *reversed(up), *last], up)
+    rows = [(slab, to, to) for slab, to in up]
+    return Known(now, goal, [*down, up[0], *last, *up[1:]], [down[0], *reversed(up), *last], rows)
+
+
+def begun(n: int) -> Known:
+    """One pile wanted, all on the ground but its top slab, which is on the one halfway up: it grows to beneath that.
+
+    The slab that shall rest on the one halfway up starts the walk, and only waits.
+    """
+    half = n // 2
+    built = [(slab, slab - 1) for slab in range(2, n + 1)]
+    down, grown = [(n, 0)], built[: half - 2]
+    rows = [(n, half, half - 1)]
+    return Known([*[0] * (n - 1), half], tower(n), down + built, grown + down + built[half - 2 :], rows)
 
 
 # The closed forms, each with the numbers of slabs at which the reading confirms it.
-KNOWN = ((turned, range(2, 17)), (exchanged, range(4, 17, 4)), (ring, range(4, 17)))
+KNOWN = ((turned, range(2, 17)), (exchanged, range(4, 17, 4)), (ring, range(4, 17)), (begun, range(4, 17)))
 
 
 def full_yards() -> Iterator[Known]:
@@ -146,6 +193,7 @@ def families(n: int) -> Iterator[Sheet]:
     yield exchanged(n)[:2]
     yield copies([2, 3, 0, 5, 0], [5, 0, 0, 3, 2], n)
     yield ring(n)[:2]
+    yield begun(n)[:2]
     # k slabs that wait in a row before a pile whose top slab is in its own way.
     k = n // 4
     pile = list(range(2 * k + 1, n))

@@ -6,14 +6,18 @@ from typing import Any
 
 from lines import Lift, Sheet, all_shown, counted
 from rules import METHODS, MOST, MOST_PANEL, QUESTIONS, TRAINING
-from steps import Pair, Step, deadlocked, length_in_words, lift_in_words, links, listed, long, reason, steps, told
-from steps import verdict_in_words
-from topjeska import Generator, Library
+from steps import Step, deadlocked, good_parts, length_in_words, lift_in_words, links, listed, long, reason, slabs_of
+from steps import steps, told, verdict_in_words
+from topjeska import Generator, Library, Row
 
 # An answer: what was asked, the sheet, and the numbers and words of the answer.
 Answer = dict[str, Any]
 
 WIDTH = 100
+
+# A space at which no line is broken, and the yard of which the third number of a row speaks.
+TIED = "\u00a0"
+STALLED = "once all constructive lifts are made and the yard stalls"
 
 
 # ---- answers as objects
@@ -64,12 +68,12 @@ def deadlock(library: Library, sheet: Sheet) -> Answer:
     if found.refusal:
         return refused(begun, sheet, found.refusal, found.place)
     about = told(library, sheet)
-    ends = {"refusal": 0, "place": 0, "count": len(found.pairs), "deadlock": found.pairs, "misplaced": about.misplaced}
-    if found.pairs:
-        words = f"deadlock: {deadlocked(found.pairs)}"
+    ends = {"refusal": 0, "place": 0, "count": len(found.rows), "deadlock": found.rows, "misplaced": about.misplaced}
+    if found.rows:
+        words = f"deadlock: {deadlocked(found.rows)}"
     else:
         words = "no deadlock" if about.misplaced else "no deadlock: nothing is misplaced"
-    cost = cost_in_words(about.head, found.pairs)
+    cost = cost_in_words(about.head, found.rows)
     return {**begun, **ends, "floor": about.floor(), "words": words, "cost": cost}
 
 
@@ -195,7 +199,7 @@ def refusal_in_words(method: int, sheet: Sheet, number: int, place: int) -> str:
     return question_in_words(number, about_place(method, sheet, number, place))
 
 
-def cost_in_words(misplaced: int, ring: list[Pair]) -> str:
+def cost_in_words(misplaced: int, ring: list[Row]) -> str:
     """What a deadlock costs every list."""
     astray = counted(misplaced, "slab is", "slabs are")
     if ring:
@@ -203,7 +207,7 @@ def cost_in_words(misplaced: int, ring: list[Pair]) -> str:
     return f"{astray} misplaced, and methods 2 and 3 lift each once: none is shorter"
 
 
-def head_in_words(head: int, ring: list[Pair]) -> str:
+def head_in_words(head: int, ring: list[Row]) -> str:
     """What the number of misplaced slabs means for every list (theorem `HeadCount.fewest`)."""
     return f"{head} at the start, {'every list has more lifts' if ring else 'the fewest lifts that could do'}"
 
@@ -212,7 +216,7 @@ def rows(named: list[tuple[str, str]]) -> list[str]:
     """Rows of a name and its words, wrapped; tools read `sheet`, `method` and `list` back."""
     indent = " " * 11
     wrapped = textwrap.TextWrapper(WIDTH, subsequent_indent=indent, break_long_words=False, break_on_hyphens=False)
-    return [wrapped.fill(f"{name + ':':11}{text}") for name, text in named]
+    return [wrapped.fill(f"{name + ':':11}{text}").replace(TIED, " ") for name, text in named]
 
 
 def sentence(words: str) -> str:
@@ -245,15 +249,24 @@ def plan_in_words(answer: Answer) -> list[str]:
     return [sentence(answer["words"]), *map(sentence, each), *rows(named)]
 
 
+def indented(lines: list[str]) -> list[str]:
+    """Lines that stand further in."""
+    return [f"  {line}" for line in lines]
+
+
+def ring_in_words(ring: list[Row]) -> list[str]:
+    """A ring, slab by slab: who is in whose way, and up to where each goal pile is right."""
+    head = f"deadlock: {'slab' if len(ring) == 1 else 'slabs'} {listed(slabs_of(ring), ' and ')}"
+    return [sentence(head), *indented(links(ring)), f"{STALLED}:", *indented(good_parts(ring))]
+
+
 def deadlock_in_words(answer: Answer) -> list[str]:
     """The ring, slab by slab, and what it costs."""
     ring = answer["deadlock"]
-    each = [f"  {link}" for link in links(ring)] if ring else []
-    pairs = ", ".join(f"{slab} {through}" for slab, through in ring)
-    slabs = listed([slab for slab, _ in ring], " and ")
-    head = f"deadlock: {'slab' if len(ring) == 1 else 'slabs'} {slabs}" if ring else answer["words"]
-    said = [sentence(head), *each, *([sentence(answer["cost"])] if answer["misplaced"] else [])]
-    return [*said, *rows([("pairs", pairs or "none"), sheet_row(answer)])]
+    said = ring_in_words(ring) if ring else [sentence(answer["words"])]
+    said += [sentence(answer["cost"])] if answer["misplaced"] else []
+    line = ", ".join(TIED.join(map(str, row)) for row in ring)
+    return [*said, *rows([("rows", line or "none"), sheet_row(answer)])]
 
 
 def replay_in_words(answer: Answer) -> list[str]:

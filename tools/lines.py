@@ -23,7 +23,7 @@ LIFT = re.compile(r"([0-9]+)(?:→|->)([0-9]+)")
 NAME = re.compile(r"\s*([^:/]*?)\s*:")
 ROW = re.compile(r"^(sheet|method|list|refused): *(.*(?:\n +.*)*)", re.MULTILINE)
 BLOCK = re.compile(r"\n[ \t]*\n")
-PRINTED = re.compile(r"^(?:list|method|pairs|verdict|refused|accepted): ", re.MULTILINE)
+PRINTED = re.compile(r"^(?:list|method|pairs|rows|verdict|refused|accepted): ", re.MULTILINE)
 ONCE = "standard input, -, can be read once"
 
 # How a sheet is typed, for the help of every tool.

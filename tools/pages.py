@@ -10,7 +10,7 @@ from typing import Any
 from answers import Answer, deadlock, plan
 from lines import Fault, Sheet, counted
 from rules import METHODS
-from steps import Frame, deadlocked, frames, led, lift_in_words, listed, standing, waits
+from steps import Frame, deadlocked, frames, led, lift_in_words, listed, slabs_of, standing, waits
 from topjeska import Library
 
 TEMPLATE = Path(__file__).resolve().parent / "page.html"
@@ -64,7 +64,7 @@ def at_the_start(test: Answer) -> str:
     """What the deadlock test says of a sheet, without the links of the ring."""
     if not test["misplaced"]:
         return test["words"]
-    slabs = [slab for slab, _ in test["deadlock"]]
+    slabs = slabs_of(test["deadlock"])
     ring = f": {'slab' if len(slabs) == 1 else 'slabs'} {listed(slabs, ' and ')}" if slabs else ""
     return f"{'deadlock' if slabs else 'no deadlock'} at the start{ring}; {test['cost']}"
 

@@ -1,18 +1,18 @@
 """What the library says of a sheet and of a list: how short a list can be, what is misplaced and what waits before and
 after each lift, and why a method makes it.
 
-Nothing is planned here. Misplaced slabs, stalls and loops are read off the library's answers to the yard as it stands;
-what is worked out beside them, the slabs c and d and who is in whose way, is held to the pairs of the deadlock test.
+Nothing is planned here. Misplaced slabs, stalls, and loops with c of their slabs are read off the library's answers to
+the yard as it stands. What is worked out beside them, d and who is in whose way, is held to the rows of the deadlock
+test; c of a slab that waits and is not on the loop is worked out from the misplaced slabs.
 """
 
+import itertools
 from collections.abc import Iterator, Sequence
 from typing import NamedTuple
 
 from lines import Fault, Lift, Sheet, counted
 from rules import METHODS, VERDICTS
-from topjeska import Lent, Library
-
-Pair = tuple[int, int]
+from topjeska import Lent, Library, Row
 
 # So many slabs of a loop are named before the rest is only counted.
 NAMED = 12
@@ -36,7 +36,7 @@ class Frame(NamedTuple):
 
     yard: list[int]
     misplaced: set[int]
-    loop: list[Pair]
+    loop: list[Row]
 
 
 class Step(NamedTuple):
@@ -48,7 +48,7 @@ class Step(NamedTuple):
     slab: int
     destination: int
     home: bool
-    loop: list[Pair]
+    loop: list[Row]
     leads: list[int]
 
 
@@ -58,7 +58,7 @@ class Told(NamedTuple):
     sheet: Sheet
     head: int
     misplaced: list[int]
-    ring: list[Pair]
+    ring: list[Row]
     counts: dict[int, int]
 
     def floor(self) -> int:
@@ -74,7 +74,7 @@ def told(library: Library, sheet: Sheet) -> Told:
     plans = {method: library.plan(method, sheet) for method in METHODS}
     misplaced = sorted(set(plans[2].slabs()))
     counts = {method: len(plan.slabs()) for method, plan in plans.items()}
-    return Told(sheet, plans[2].misplaced, misplaced, library.deadlock(sheet).pairs, counts)
+    return Told(sheet, plans[2].misplaced, misplaced, library.deadlock(sheet).rows, counts)
 
 
 def frame(library: Library, given: Lent) -> Frame:
@@ -85,7 +85,7 @@ def frame(library: Library, given: Lent) -> Frame:
     """
     slabs = library.plan_of(2, given).slabs()
     stalled = len(slabs) > 0 and slabs.count(slabs[0]) > 1
-    return Frame(given.now.tolist(), set(slabs), library.deadlock_of(given).pairs if stalled else [])
+    return Frame(given.now.tolist(), set(slabs), library.deadlock_of(given).rows if stalled else [])
 
 
 def frames(library: Library, sheet: Sheet, lifts: Sequence[Lift]) -> Iterator[Frame]:
@@ -112,52 +112,70 @@ def steps(library: Library, sheet: Sheet, lifts: Sequence[Lift]) -> Iterator[Ste
 # ---- who is in whose way
 
 
-def loads(yard: Sequence[int]) -> dict[int, int]:
-    """What rests on each slab that carries one."""
-    return {support: slab for slab, support in enumerate(yard, 1) if support}
+class Stall:
+    """A stalled yard: what rests on each slab that carries one, and what the deadlock test names of the loop."""
 
+    def __init__(self, stalled: Frame, goal: Sequence[int]) -> None:
+        """Reads both off; of a slab on the loop the one in between, c and the next one are named."""
+        self.stalled, self.goal, loop = stalled, goal, stalled.loop
+        self.carried = {support: slab for slab, support in enumerate(stalled.yard, 1) if support}
+        self.named = {row[0]: (*row[1:], after[0]) for row, after in zip(loop, turned(loop))}
 
-def wait(stalled: Frame, goal: Sequence[int], carried: dict[int, int], slab: int) -> Wait:
-    """What a misplaced clear slab of a stalled yard waits for; beside it the loads of the yard."""
-    c, d = goal[slab - 1], slab
-    while c in stalled.misplaced:
-        c, d = goal[c - 1], c
-    through = successor = c if c in carried else d
-    while successor in carried:
-        successor = carried[successor]
-    return Wait(slab, c, d, through, successor)
+    def down(self, slab: int) -> Iterator[int]:
+        """The goal pile of a slab from it to the ground."""
+        yield slab
+        while slab:
+            slab = self.goal[slab - 1]
+            yield slab
+
+    def c(self, slab: int) -> int:
+        """c of a slab that waits: on the loop what the deadlock test names, else the first that is not misplaced."""
+        if slab in self.named:
+            return self.named[slab][1]
+        return next(one for one in self.down(slab) if one not in self.stalled.misplaced)
+
+    def wait(self, slab: int) -> Wait:
+        """What a slab waits for, which on the loop must be what the deadlock test names."""
+        c = self.c(slab)
+        d = next((one for one, below in itertools.pairwise(self.down(slab)) if below == c), 0)
+        through = successor = c if c in self.carried else d
+        while successor in self.carried:
+            successor = self.carried[successor]
+        if not d or self.named.get(slab, (through, c, successor)) != (through, c, successor):
+            raise Fault(f"slab {slab}: what waits does not agree with the deadlock test {self.stalled.loop}")
+        return Wait(slab, c, d, through, successor)
 
 
 def waits(stalled: Frame, goal: Sequence[int]) -> list[Wait]:
-    """All that wait in a stalled yard, lowest number first; those on the loop as the deadlock test has them."""
-    carried = loads(stalled.yard)
-    found = [wait(stalled, goal, carried, slab) for slab in sorted(stalled.misplaced) if slab not in carried]
-    answered = {slab: (through, after) for (slab, through), (after, _) in zip(stalled.loop, turned(stalled.loop))}
-    for one in found:
-        if answered.get(one.slab, (one.through, one.successor)) != (one.through, one.successor):
-            raise Fault(f"slab {one.slab}: what waits does not agree with the deadlock test {stalled.loop}")
-    return found
+    """All that wait in a stalled yard, lowest number first."""
+    stall = Stall(stalled, goal)
+    return [stall.wait(slab) for slab in sorted(stalled.misplaced) if slab not in stall.carried]
 
 
 def led(stalled: Frame, goal: Sequence[int], slab: int) -> list[int]:
     """The loop that the successors of a slab that waits lead to, from its lowest number onward."""
-    carried, visited = loads(stalled.yard), {}
+    stall, visited = Stall(stalled, goal), {}
     while slab not in visited:
         visited[slab] = len(visited)
-        slab = wait(stalled, goal, carried, slab).successor
+        slab = stall.wait(slab).successor
     loop = list(visited)[visited[slab] :]
     at = loop.index(min(loop))
     return [*loop[at:], *loop[:at]]
 
 
-def standing(slab: int, leads: Sequence[int], loop: Sequence[Pair]) -> str:
+def standing(slab: int, leads: Sequence[int], loop: Sequence[Row]) -> str:
     """How a slab that waits stands to the loop of its yard, by the loop that its successors lead to."""
-    if leads == [one for one, _ in loop]:
+    if leads == slabs_of(loop):
         return "on the loop" if slab in leads else WAITS
     return "on another loop" if slab in leads else "waits on another loop"
 
 
-def turned(ring: list[Pair]) -> list[Pair]:
+def slabs_of(ring: Sequence[Row]) -> list[int]:
+    """The slabs of a ring."""
+    return [slab for slab, _, _ in ring]
+
+
+def turned(ring: list[Row]) -> list[Row]:
     """A ring from its second slab on: beside each slab stands the next."""
     return [*ring[1:], *ring[:1]]
 
@@ -172,19 +190,25 @@ def listed(slabs: Sequence[int], last: str = ", ") -> str:
     return last.join(filter(None, [", ".join(map(str, slabs[:-1])), *map(str, slabs[-1:])]))
 
 
-def links(ring: list[Pair]) -> list[str]:
+def links(ring: list[Row]) -> list[str]:
     """How each slab of a ring is in the way of the one before it, in words."""
     if len(ring) == 1:
         return [f"{ring[0][0]} above {ring[0][1]} now and in the goal"]
     return [
         f"{slab} shall stand above {through}, and {after} stands above {through} now"
-        for (slab, through), (after, _) in zip(ring, turned(ring))
+        for (slab, through, _), (after, _, _) in zip(ring, turned(ring))
     ]
 
 
-def deadlocked(ring: list[Pair]) -> str:
+def good_parts(ring: list[Row]) -> list[str]:
+    """Up to where the goal pile of each slab of a ring is in position when the yard stalls, in words."""
+    some, none = "the goal pile of {} is in position up to {}", "nothing beneath {} in its goal pile is in position"
+    return [(some if c else none).format(slab, c) for slab, _, c in ring]
+
+
+def deadlocked(ring: list[Row]) -> str:
     """The slabs of a deadlock, and why they are one."""
-    slabs = [slab for slab, _ in ring]
+    slabs = slabs_of(ring)
     who = f"slab {slabs[0]} is" if len(slabs) == 1 else f"slabs {listed(slabs, ' and ')} are"
     why = "; ".join(links(ring)) if len(ring) <= NAMED // 3 else f"a ring of {len(ring)} slabs"
     return f"{who} deadlocked ({why})"
@@ -233,13 +257,13 @@ def reason(method: int, step: Step) -> str:
         return "home"
     if method == 1:
         return "put down, the first part of method 1"
-    slabs = [slab for slab, _ in step.loop]
+    slabs = slabs_of(step.loop)
     if step.slab in slabs:
         return f"stalled, loop {listed(slabs)}"
     return f"stalled, loop {listed(slabs)}; {step.slab} {apart(step.slab, step.leads, step.loop)}"
 
 
-def apart(slab: int, leads: Sequence[int], loop: Sequence[Pair]) -> str:
+def apart(slab: int, leads: Sequence[int], loop: Sequence[Row]) -> str:
     """How a slab that waits and is not on the loop of its yard stands to it."""
     if leads == [slab]:
         return "is in its own way"

@@ -26,6 +26,10 @@ MADE = ROOT / "target" / "tools"
 LENGTHS = 1
 PANEL = 2
 
+# What the deadlock test writes of a slab: it, the slab through which the next one is in its way, and c of document 01.
+Row = tuple[int, int, int]
+WIDTH = 3
+
 # The fields of each answer, in the header's order.
 FIELDS = {
     "check": ("refusal", "place"),
@@ -83,11 +87,11 @@ class Plan(NamedTuple):
 
 
 class Deadlock(NamedTuple):
-    """The deadlocked slabs, each with the slab through which the next one is in its way; none without a deadlock."""
+    """The slabs of one deadlock, a row for each; none without a deadlock."""
 
     refusal: int
     place: int
-    pairs: list[tuple[int, int]]
+    rows: list[Row]
 
 
 class Replay(NamedTuple):
@@ -242,10 +246,10 @@ class Library:
 
     def deadlock_of(self, given: Lent) -> Deadlock:
         """The deadlock test of lists that are lent as they are."""
-        space = array("H", bytes(4 * len(given.now)))
+        space = array("H", bytes(2 * WIDTH * len(given.now)))
         answer = self.called["deadlock_with"](given.options, *given.lists(), *lent(space))
-        numbers = space[: 2 * answer.count]
-        return Deadlock(answer.refusal, answer.place, list(zip(numbers[::2], numbers[1::2])))
+        slabs, throughs, ends = (space[at : WIDTH * answer.count : WIDTH] for at in range(WIDTH))
+        return Deadlock(answer.refusal, answer.place, list(zip(slabs, throughs, ends)))
 
     def replay(self, sheet: Sheet, lifts: Sequence[Lift]) -> Replay:
         """The verdict on a list."""

@@ -18,15 +18,22 @@ static const sheet sheets[] = {
     {"S2", 2, {2, 0}, {0, 1}},
     {"S4", 4, {2, 0, 4, 0}, {4, 0, 2, 0}},
     {"S5", 5, {2, 3, 0, 5, 0}, {5, 0, 0, 3, 2}},
+    {"grows", 4, {2, 0, 0, 0}, {2, 4, 0, 3}},
 };
 
-/* Prints pairs, each with a space before it. */
-static void print_pairs(const uint16_t *pairs, uint64_t count, const char *between) {
+/* Prints groups of so many numbers, each with a space before it. */
+static void print_groups(const uint16_t *numbers, uint64_t count, unsigned of,
+                         const char *between) {
     if (count == 0)
         printf(" none");
-    for (uint64_t i = 0; i < count; i++)
-        printf("%s %u%s%u", i == 0 ? "" : ",", pairs[2 * i], between, pairs[2 * i + 1]);
+    for (uint64_t i = 0; i < count * of; i++)
+        printf("%s%u", i % of != 0 ? between : i == 0 ? " " : ", ", numbers[i]);
     printf("\n");
+}
+
+/* Prints lifts, which are pairs: slab, destination. */
+static void print_lifts(const uint16_t *lifts, uint64_t count) {
+    print_groups(lifts, count, 2, "->");
 }
 
 /* Ends the program where something is refused. */
@@ -39,20 +46,20 @@ static void accepted(uint64_t refusal, uint64_t place) {
 
 /* Prints what the library says of a sheet. */
 static void show(const sheet *s) {
-    uint16_t lifts[TOPJESKA_PLAN_SPACE(MOST)], locked[TOPJESKA_DEADLOCK_SPACE(MOST)];
+    uint16_t lifts[TOPJESKA_PLAN_SPACE(MOST)], locked[TOPJESKA_DEADLOCK_ROOM(MOST)];
     topjeska_check_answer checked = topjeska_check(s->now, s->n, s->goal, s->n);
     accepted(checked.refusal, checked.place);
     topjeska_plan_answer plan = topjeska_plan(TOPJESKA_METHOD_GN1, s->now, s->n, s->goal, s->n,
                                               lifts, TOPJESKA_PLAN_SPACE(s->n));
     accepted(plan.refusal, plan.place);
     printf("%s lifts", s->name);
-    print_pairs(lifts, plan.count, "->");
+    print_lifts(lifts, plan.count);
     printf("%s misplaced %" PRIu64 "\n", s->name, plan.misplaced);
     topjeska_deadlock_answer deadlock =
-        topjeska_deadlock(s->now, s->n, s->goal, s->n, locked, TOPJESKA_DEADLOCK_SPACE(s->n));
+        topjeska_deadlock(s->now, s->n, s->goal, s->n, locked, TOPJESKA_DEADLOCK_ROOM(s->n));
     accepted(deadlock.refusal, deadlock.place);
     printf("%s deadlock", s->name);
-    print_pairs(locked, deadlock.count, " ");
+    print_groups(locked, deadlock.count, TOPJESKA_DEADLOCK_WIDTH, " ");
     topjeska_replay_answer replay =
         topjeska_replay(s->now, s->n, s->goal, s->n, lifts, 2 * plan.count);
     accepted(replay.refusal, replay.place);
@@ -81,7 +88,7 @@ static void show_lengths(const sheet *s4) {
         topjeska_sheet_plan(s, TOPJESKA_METHOD_GN1, lifts, TOPJESKA_PLAN_SPACE(s4->n));
     accepted(plan.refusal, plan.place);
     printf("S4 with lengths lifts");
-    print_pairs(lifts, plan.count, "->");
+    print_lifts(lifts, plan.count);
     topjeska_replay_answer replay = topjeska_sheet_replay(s, onto_3, 2);
     accepted(replay.refusal, replay.place);
     if (replay.verdict == TOPJESKA_VERDICT_TOO_LONG)

@@ -33,9 +33,13 @@ pub const fn plan_space(n: usize) -> usize {
     4 * n
 }
 
+/// The numbers that the deadlock test writes for a slab: row i, counted from 0, begins at
+/// `DEADLOCK_WIDTH` * i.
+pub const DEADLOCK_WIDTH: usize = 3;
+
 /// The numbers of lent space that the deadlock test needs for n slabs.
-pub const fn deadlock_space(n: usize) -> usize {
-    2 * n
+pub const fn deadlock_room(n: usize) -> usize {
+    DEADLOCK_WIDTH * n
 }
 
 /// The bytes of stack that every call stays below. No call allocates memory or keeps a pointer: the
@@ -240,8 +244,10 @@ extern "C" {
     ) -> PlanAnswer;
 
     /// Writes the deadlock that the constructive lifts come to, if any, to the front of the space, as
-    /// pairs: the slab, and the slab through which the next one is in its way. The space needs
-    /// `deadlock_space` numbers; what lies behind the pairs keeps what it held.
+    /// rows of three: a slab of the deadlock; the slab through which the next one is in its way; and
+    /// the nearest slab beneath that slab of the deadlock in its goal pile that is in position once
+    /// all constructive lifts are made and the yard stalls, 0 for the ground. The space needs
+    /// `deadlock_room` numbers; what lies behind the rows keeps what it held.
     pub fn topjeska_deadlock(
         now: *const u16,
         now_len: usize,
@@ -288,7 +294,7 @@ extern "C" {
         space_len: usize,
     ) -> PlanAnswer;
 
-    /// As `topjeska_deadlock`. A sheet that is accepted with lengths has the same pairs with them and
+    /// As `topjeska_deadlock`. A sheet that is accepted with lengths has the same rows with them and
     /// without.
     pub fn topjeska_deadlock_with(
         options: u16,

@@ -39,6 +39,11 @@ pub enum Method {
 /// A slab and its destination.
 pub type Lift = [u16; 2];
 
+/// A slab of the deadlock; the slab through which the next one is in its way; and the nearest slab beneath that slab of
+/// the deadlock in its goal pile that is in position once all constructive lifts are made and the yard stalls, 0 for the
+/// ground.
+pub type DeadlockRow = [u16; ffi::DEADLOCK_WIDTH];
+
 /// The lifts from now to the goal, and how many slabs are misplaced at the start.
 #[derive(Clone, Debug, PartialEq, Eq)]
 pub struct Plan {
@@ -268,9 +273,19 @@ impl<'a> Sheet<'a> {
         })
     }
 
-    /// Writes the deadlocked slabs to the front of the space, each with the slab through which the next one is in its
-    /// way; none where there is no deadlock. The space needs `ffi::deadlock_space(n) / 2` pairs for n slabs.
-    pub fn deadlock<'s>(&self, space: &'s mut [[u16; 2]]) -> Result<&'s [[u16; 2]], Refusal> {
+    /// Writes one deadlock, a row for each of its slabs, to the front of the space; nothing where there is none. The
+    /// space needs n rows for n slabs.
+    ///
+    /// ```
+    /// use topjeska::{ffi, Refusal, Sheet};
+    ///
+    /// // Slab 1 is above slab 2 now and in the goal, and of that goal pile no slab is in position.
+    /// let (now, goal) = ([2, 3, 0, 5, 0], [5, 0, 0, 3, 2]);
+    /// let mut space = [[0; ffi::DEADLOCK_WIDTH]; 5];
+    /// assert_eq!(Sheet::new(&now, &goal).deadlock(&mut space)?, [[1, 2, 0]]);
+    /// # Ok::<(), Refusal>(())
+    /// ```
+    pub fn deadlock<'s>(&self, space: &'s mut [DeadlockRow]) -> Result<&'s [DeadlockRow], Refusal> {
         let (options, lengths) = self.options();
         let numbers = space.as_flattened_mut();
         // SAFETY: each pointer is a slice's own, with its length; nothing else uses the space.
@@ -337,12 +352,12 @@ fn plan_by(entry: u16, method: Method, now: &[u16], goal: &[u16]) -> Result<Plan
     Ok(Plan { lifts, misplaced })
 }
 
-/// The deadlocked slabs, each with the slab through which the next one is in its way; empty where there is no deadlock.
-pub fn deadlock(now: &[u16], goal: &[u16]) -> Result<Vec<[u16; 2]>, Refusal> {
-    let mut pairs = vec![[0; 2]; ffi::deadlock_space(slabs(now)) / 2];
-    let count = Sheet::new(now, goal).deadlock(&mut pairs)?.len();
-    pairs.truncate(count);
-    Ok(pairs)
+/// One deadlock, a row for each of its slabs; empty where there is none.
+pub fn deadlock(now: &[u16], goal: &[u16]) -> Result<Vec<DeadlockRow>, Refusal> {
+    let mut rows = vec![[0; ffi::DEADLOCK_WIDTH]; slabs(now)];
+    let count = Sheet::new(now, goal).deadlock(&mut rows)?.len();
+    rows.truncate(count);
+    Ok(rows)
 }
 
 /// Follows a list of lifts.
@@ -528,8 +543,37 @@ mod tests {
             );
         }
         let (now, goal) = (&[2, 0, 4, 0], &[4, 0, 2, 0]);
-        assert_eq!(deadlock(now, goal), Ok(vec![[1, 4], [3, 2]]));
-        assert_eq!(deadlock(goal, now), Ok(vec![[1, 2], [3, 4]]));
+        assert_eq!(deadlock(now, goal), Ok(vec![[1, 4, 4], [3, 2, 2]]));
+        assert_eq!(deadlock(goal, now), Ok(vec![[1, 2, 2], [3, 4, 4]]));
+    }
+
+    #[test]
+    fn a_row_says_where_the_good_part_of_the_pile_ends() {
+        // S5 "reads 1 2 0": beneath slab 1 in its goal pile no slab is in position.
+        let row = |now: [u16; 5], goal: [u16; 5]| deadlock(&now, &goal);
+        assert_eq!(row([2, 3, 0, 5, 0], [5, 0, 0, 3, 2]), Ok(vec![[1, 2, 0]]));
+        // Beneath slab 1 come 2, 4 and 3. Of these 3 alone is in position at the start, and 4 too when the yard stalls:
+        // its lift onto 3 is constructive.
+        assert_eq!(row([2, 5, 0, 0, 0], [2, 4, 0, 3, 0]), Ok(vec![[1, 2, 4]]));
+    }
+
+    #[test]
+    fn the_deadlock_test_needs_a_row_for_each_slab() {
+        let (now, goal) = ([2, 0, 4, 0], [4, 0, 2, 0]);
+        let held = [9; ffi::deadlock_room(4)];
+        let mut space = held;
+        let mut test = |len| {
+            let room = space.as_mut_ptr();
+            // SAFETY: each pointer is an array's own, with a length that it has.
+            let answer =
+                unsafe { ffi::topjeska_deadlock(now.as_ptr(), 4, goal.as_ptr(), 4, room, len) };
+            (answer.refusal, answer.count, space)
+        };
+        for len in [0, 8, 11] {
+            assert_eq!(test(len), (ffi::REFUSAL_SPACE, 0, held));
+        }
+        let written = [1, 4, 4, 3, 2, 2, 9, 9, 9, 9, 9, 9];
+        assert_eq!(test(12), (0, 2, written));
     }
 
     #[test]
@@ -569,14 +613,14 @@ mod tests {
 
     /// All of a sheet with lengths answer by one refusal, and keep the space.
     fn sheet_refuses(sheet: Sheet, refusal: Refusal) {
-        let mut space = [[9; 2]; 8];
+        let (mut space, mut rows) = ([[9; 2]; 8], [[9; 3]; 4]);
         assert_eq!(sheet.check(), Err(refusal));
         for method in METHODS {
             assert_eq!(sheet.plan(method, &mut space), Err(refusal));
         }
-        assert_eq!(sheet.deadlock(&mut space), Err(refusal));
+        assert_eq!(sheet.deadlock(&mut rows), Err(refusal));
         assert_eq!(sheet.replay(&[[1, 0]]), Err(ReplayError::Refused(refusal)));
-        assert_eq!(space, [[9; 2]; 8]);
+        assert_eq!((space, rows), ([[9; 2]; 8], [[9; 3]; 4]));
     }
 
     #[test]
@@ -603,7 +647,7 @@ mod tests {
     fn lengths_change_no_list() {
         // S4, its feet longer than what is lifted.
         let (now, goal) = (&[2, 0, 4, 0], &[4, 0, 2, 0]);
-        let (three, pairs) = ([[1, 0], [3, 2], [1, 4]], [[1, 4], [3, 2]]);
+        let (three, rows) = ([[1, 0], [3, 2], [1, 4]], [[1, 4, 4], [3, 2, 2]]);
         let without = Sheet::new(now, goal);
         for sheet in [without, without.lengths(&[250, 300, 250, 300])] {
             let mut space = [[9; 2]; 8];
@@ -612,12 +656,12 @@ mod tests {
             assert_eq!(made, Ok(Planned { lifts, misplaced }));
             assert_eq!(space[3..], [[9; 2]; 5]);
             assert_eq!(sheet.replay(&three), Ok(Verdict::Arrives));
-            let mut space = [[9; 2]; 4];
-            assert_eq!(sheet.deadlock(&mut space), Ok(pairs.as_slice()));
-            assert_eq!(space[2..], [[9; 2]; 2]);
+            let mut space = [[9; 3]; 4];
+            assert_eq!(sheet.deadlock(&mut space), Ok(rows.as_slice()));
+            assert_eq!(space[2..], [[9; 3]; 2]);
             let short = refusal(ffi::REFUSAL_SPACE, 0);
             assert_eq!(sheet.plan(Method::Gn1, &mut [[9; 2]; 7]), Err(short));
-            assert_eq!(sheet.deadlock(&mut [[9; 2]; 3]), Err(short));
+            assert_eq!(sheet.deadlock(&mut [[9; 3]; 3]), Err(short));
         }
     }
 

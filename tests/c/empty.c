@@ -58,7 +58,7 @@ static void deadlocks(size_t n, size_t m, size_t len) {
     topjeska_sheet s = sheet(n, m);
     topjeska_deadlock_answer got = whole ? topjeska_sheet_deadlock(s, lent, len)
                                          : topjeska_deadlock(s.now, n, s.goal, m, lent, len);
-    deadlock_is("deadlock", got, refused(n, m, len, 2 * n), 0, 0);
+    deadlock_is("deadlock", got, refused(n, m, len, TOPJESKA_DEADLOCK_ROOM(n)), 0, 0);
     space_is("space of deadlock", space, held, 8);
 }
 

@@ -9,8 +9,16 @@ static const uint16_t bad[] = {2, 1, 5}, ground[] = {0, 0, 0};
 static const uint16_t shared[] = {0, 1, 1}, floating[] = {1};
 /* S6 "reads 2", three lifts by method 2; slab 1 goes to the ground and back. */
 static const uint16_t s6_now[] = {2, 3, 0}, s6_goal[] = {2, 0, 0}, s6_lifts[] = {1, 0, 2, 0, 1, 2};
-/* S4, "deadlock pairs 1 4, 3 2". */
+/* "S4 reads 1 4 4, 3 2 2; S5 reads 1 2 0." */
+enum { ROW = TOPJESKA_DEADLOCK_WIDTH };
 static const uint16_t s4_now[] = {2, 0, 4, 0}, s4_goal[] = {4, 0, 2, 0};
+static const uint16_t s4_rows[2 * ROW] = {1, 4, 4, 3, 2, 2};
+static const uint16_t s5_now[] = {2, 3, 0, 5, 0}, s5_goal[] = {5, 0, 0, 3, 2};
+static const uint16_t s5_row[ROW] = {1, 2, 0};
+/* Slab 1 is above slab 2 now and in the goal, where 2 rests on 4 and 4 on 3. Of these 3 alone is in
+ * position at the start, and 4 too when the yard stalls: its lift onto 3 is constructive. */
+static const uint16_t built_now[] = {2, 5, 0, 0, 0}, built_goal[] = {2, 4, 0, 3, 0};
+static const uint16_t built_row[ROW] = {1, 2, 4};
 /* A sheet that method 3 lifts once more than method 2. */
 static const uint16_t six_now[] = {3, 0, 4, 0, 2, 1}, six_goal[] = {2, 0, 1, 0, 4, 5};
 /* "4,000 entries pass question 2, 4,001 do not." All on the ground. */
@@ -112,22 +120,44 @@ static void panels(void) {
             TOPJESKA_REFUSAL_TOO_MANY, 0, 0, 0);
 }
 
+/* A space for the rows of five slabs, and what it holds then: numbers that no row has. */
+enum { ROWS = TOPJESKA_DEADLOCK_ROOM(5) };
+static uint16_t rows[ROWS], no_rows[ROWS];
+
+static void lend_rows(void) {
+    memset(rows, 0xFF, sizeof rows);
+    memset(no_rows, 0xFF, sizeof no_rows);
+}
+
+/* What the deadlock test writes of five slabs: one row. */
+static void row_is(const char *name, const uint16_t *now, const uint16_t *goal,
+                   const uint16_t *row) {
+    lend_rows();
+    deadlock_is(name, topjeska_deadlock(now, 5, goal, 5, rows, ROWS), 0, 0, 1);
+    space_is(name, rows, row, ROW);
+    space_is(name, rows + ROW, no_rows, ROWS - ROW);
+}
+
 static void deadlocks(void) {
-    uint16_t space[8] = {0};
-    const uint16_t untouched[8] = {0}, pairs[] = {1, 4, 3, 2};
-    deadlock_is("deadlock of a bad now", topjeska_deadlock(bad, 3, ground, 3, space, 6),
+    lend_rows();
+    deadlock_is("deadlock of a bad now", topjeska_deadlock(bad, 3, ground, 3, rows, 9),
                 TOPJESKA_REFUSAL_NOW_ENTRY, 3, 0);
-    deadlock_is("deadlock of a bad goal", topjeska_deadlock(ground, 3, bad, 3, space, 6),
+    deadlock_is("deadlock of a bad goal", topjeska_deadlock(ground, 3, bad, 3, rows, 9),
                 TOPJESKA_REFUSAL_GOAL_ENTRY, 3, 0);
     deadlock_is("deadlock in a number less",
-                topjeska_deadlock(s4_now, 4, s4_goal, 4, space, TOPJESKA_DEADLOCK_SPACE(4) - 1),
+                topjeska_deadlock(s4_now, 4, s4_goal, 4, rows, TOPJESKA_DEADLOCK_ROOM(4) - 1),
                 TOPJESKA_REFUSAL_SPACE, 0, 0);
-    space_is("space of refused tests", space, untouched, 8);
+    deadlock_is("deadlock in two numbers a slab",
+                topjeska_deadlock(s4_now, 4, s4_goal, 4, rows, 2 * 4), TOPJESKA_REFUSAL_SPACE, 0,
+                0);
+    space_is("space of refused tests", rows, no_rows, ROWS);
     deadlock_is("deadlock of S4",
-                topjeska_deadlock(s4_now, 4, s4_goal, 4, space, TOPJESKA_DEADLOCK_SPACE(4)), 0, 0,
+                topjeska_deadlock(s4_now, 4, s4_goal, 4, rows, TOPJESKA_DEADLOCK_ROOM(4)), 0, 0,
                 2);
-    space_is("pairs of S4", space, pairs, 4);
-    space_is("space behind them", space + 4, untouched, 4);
+    space_is("rows of S4", rows, s4_rows, 2 * ROW);
+    space_is("space behind them", rows + 2 * ROW, no_rows, ROWS - 2 * ROW);
+    row_is("deadlock of S5", s5_now, s5_goal, s5_row);
+    row_is("deadlock behind a constructive lift", built_now, built_goal, built_row);
 }
 
 static void replays(void) {
@@ -210,22 +240,21 @@ static void plans_with(void) {
 }
 
 static void deadlocks_with(void) {
-    uint16_t space[8] = {0};
-    const uint16_t untouched[8] = {0}, pairs[] = {1, 4, 3, 2};
+    lend_rows();
     deadlock_is("deadlock of an overhang",
-                topjeska_deadlock_with(ALONE, s6_goal, 3, s6_now, 3, s6_short, 3, space, 5),
+                topjeska_deadlock_with(ALONE, s6_goal, 3, s6_now, 3, s6_short, 3, rows, 8),
                 TOPJESKA_REFUSAL_GOAL_OVERHANG, 2, 0);
     deadlock_is("deadlock in a number less, with lengths",
-                topjeska_deadlock_with(ALONE, s4_now, 4, s4_goal, 4, s4_long, 4, space, 7),
+                topjeska_deadlock_with(ALONE, s4_now, 4, s4_goal, 4, s4_long, 4, rows, 11),
                 TOPJESKA_REFUSAL_SPACE, 0, 0);
-    space_is("space of refused tests with lengths", space, untouched, 8);
+    space_is("space of refused tests with lengths", rows, no_rows, ROWS);
     deadlock_is("deadlock of S4 with lengths",
-                topjeska_deadlock_with(ALONE, s4_now, 4, s4_goal, 4, s4_long, 4, space, 8), 0, 0,
+                topjeska_deadlock_with(ALONE, s4_now, 4, s4_goal, 4, s4_long, 4, rows, 12), 0, 0,
                 2);
-    space_is("pairs of S4 with lengths", space, pairs, 4);
-    space_is("space behind them", space + 4, untouched, 4);
+    space_is("rows of S4 with lengths", rows, s4_rows, 2 * ROW);
+    space_is("space behind them", rows + 2 * ROW, no_rows, ROWS - 2 * ROW);
     deadlock_is("deadlock with other options",
-                topjeska_deadlock_with(OTHERS, s6_now, 3, s6_goal, 3, s6_short, 3, space, 6), 0, 0,
+                topjeska_deadlock_with(OTHERS, s6_now, 3, s6_goal, 3, s6_short, 3, rows, 9), 0, 0,
                 1);
 }
 
@@ -309,7 +338,7 @@ static void sheet_is_refused(const char *name, topjeska_sheet sheet, uint64_t re
  * panel's, S4 and one of a slab too many. */
 static void sheets(void) {
     uint16_t space[16] = {0};
-    const uint16_t lifts[] = {1, 0, 3, 2, 1, 4}, pairs[] = {1, 4, 3, 2};
+    const uint16_t lifts[] = {1, 0, 3, 2, 1, 4};
     topjeska_sheet s6 = {.now = s6_now, .now_len = 3, .goal = s6_goal, .goal_len = 3};
     const topjeska_sheet s4 = {.options = TOPJESKA_LENGTHS,
                                .now = s4_now,
@@ -342,9 +371,10 @@ static void sheets(void) {
     plan_is("plan of sheet S4 in a number less",
             topjeska_sheet_plan(s4, TOPJESKA_METHOD_GN1, space, 15), TOPJESKA_REFUSAL_SPACE, 0, 0,
             0);
-    deadlock_is("deadlock of sheet S4", topjeska_sheet_deadlock(s4, space, 8), 0, 0, 2);
-    space_is("pairs of sheet S4", space, pairs, 4);
-    deadlock_is("deadlock of sheet S4 in a number less", topjeska_sheet_deadlock(s4, space, 7),
+    lend_rows();
+    deadlock_is("deadlock of sheet S4", topjeska_sheet_deadlock(s4, rows, 12), 0, 0, 2);
+    space_is("rows of sheet S4", rows, s4_rows, 2 * ROW);
+    deadlock_is("deadlock of sheet S4 in a number less", topjeska_sheet_deadlock(s4, rows, 11),
                 TOPJESKA_REFUSAL_SPACE, 0, 0);
     fewer.lengths_len = 3;
     sheet_is_refused("sheet S4 with a length less", fewer, TOPJESKA_REFUSAL_LENGTHS_COUNT);

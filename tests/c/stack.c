@@ -36,7 +36,7 @@ static topjeska_training_answer training_answer, draw_answer;
 /* One operation, as a thread; training by both its functions, to now and to the goal. */
 static void *call(void *operation) {
     const uint16_t options = TOPJESKA_LENGTHS;
-    const size_t plan_len = TOPJESKA_PLAN_SPACE(SLABS), pairs_len = TOPJESKA_DEADLOCK_SPACE(SLABS);
+    const size_t plan_len = TOPJESKA_PLAN_SPACE(SLABS), rows_len = TOPJESKA_DEADLOCK_ROOM(SLABS);
     switch (*(const int *)operation) {
     case CHECK:
         check_answer = measured ? topjeska_check_with(options, now, n, goal, n, lengths, n)
@@ -60,8 +60,8 @@ static void *call(void *operation) {
         break;
     case DEADLOCK:
         deadlock_answer = measured ? topjeska_deadlock_with(options, now, n, goal, n, lengths, n,
-                                                            space, pairs_len)
-                                   : topjeska_deadlock(now, n, goal, n, space, pairs_len);
+                                                            space, rows_len)
+                                   : topjeska_deadlock(now, n, goal, n, space, rows_len);
         break;
     case TRAINING:
         training_answer = topjeska_training(n, number, now, TRAINED);
@@ -110,6 +110,9 @@ static void plan_both(const char *name) {
     space_is(name, panel_space, alike ? space : zeros, TOPJESKA_PLAN_SPACE(SLABS));
 }
 
+/* So many numbers of a space are held: two rows of the deadlock test. */
+enum { FRONT = 2 * TOPJESKA_DEADLOCK_WIDTH };
+
 /* Every operation on the sheet that is there: the count of lifts by method 1 and by 2 and 3, all of
  * which arrive, the misplaced slabs, the deadlocked slabs, and how the space then begins. */
 static void answered(const char *name, uint64_t put_down, uint64_t built, uint64_t misplaced,
@@ -126,7 +129,7 @@ static void answered(const char *name, uint64_t put_down, uint64_t built, uint64
     }
     measure(DEADLOCK);
     deadlock_is(name, deadlock_answer, 0, 0, deadlocked);
-    space_is(name, space, front, 4);
+    space_is(name, space, front, FRONT);
 }
 
 /* Every operation on sheets refused. */
@@ -144,7 +147,7 @@ static void refused(const char *name, uint64_t refusal, uint64_t place) {
 
 /* One pile that shall stand the other way up. Methods 2 and 3 lift each slab once, from the top. */
 static void turned_over(void) {
-    const uint16_t front[] = {n, 0, n - 1, n};
+    const uint16_t front[FRONT] = {n, 0, n - 1, n, n - 2, n - 1};
     for (uint16_t slab = 1; slab <= n; slab++) {
         now[slab - 1] = slab - 1;
         goal[slab - 1] = slab == n ? 0 : slab + 1;
@@ -154,7 +157,7 @@ static void turned_over(void) {
 
 /* Piles of two in a ring: each upper slab goes to the next pile, and all are in one deadlock. */
 static void ring(void) {
-    const uint16_t half = n / 2, front[] = {half + 1, 2, half + 2, 3};
+    const uint16_t half = n / 2, front[FRONT] = {half + 1, 2, 2, half + 2, 3, 3};
     for (uint16_t foot = 1; foot <= half; foot++) {
         now[foot - 1] = goal[foot - 1] = 0;
         now[half + foot - 1] = foot;
@@ -164,8 +167,8 @@ static void ring(void) {
 }
 
 /* S5 of document 01 over and over: by method 1 six lifts each, by 2 and 3 five, four slabs
- * misplaced. The deadlock test shows the first deadlock, the pair 1 2; behind it stands the list of
- * method 3. */
+ * misplaced. The deadlock test shows the first deadlock, the row 1 2 0; behind it stands what it
+ * leaves of the list of method 3, which begins 1→0, 2→0, 4→3. */
 static void many_deadlocks(void) {
     enum { SMALL = 5 };
     const uint16_t s5_now[] = {2, 3, 0, 5, 0}, s5_goal[] = {5, 0, 0, 3, 2}, copies = n / SMALL;
@@ -174,7 +177,7 @@ static void many_deadlocks(void) {
         now[slab] = s5_now[slab % SMALL] == 0 ? 0 : first + s5_now[slab % SMALL];
         goal[slab] = s5_goal[slab % SMALL] == 0 ? 0 : first + s5_goal[slab % SMALL];
     }
-    const uint16_t front[] = {1, 2, 2, 0};
+    const uint16_t front[FRONT] = {1, 2, 0, 0, 4, 3};
     answered("many deadlocks", 6 * copies, 5 * copies, 4 * copies, 1, front);
 }
 

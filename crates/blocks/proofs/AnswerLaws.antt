@@ -7,6 +7,7 @@ use Prim.Native.Nat.{ℕ, _*_, _%_, _≤_}
 use lib.ListN.{length}
 use Rattle.blocks.specs.State.{State}
 use Rattle.blocks.specs.Position.{Accepted}
+use Rattle.blocks.specs.Loop.{shownWidth}
 use Rattle.blocks.specs.Move.{Solves}
 use Rattle.blocks.specs.Question.{Question, allYes, no′, firstNo, FirstNo, IsMethod, planQuestions, deadlockQuestions, replayQuestions}
 use Rattle.blocks.specs.Question.{Refused, PlanRefused, DeadlockRefused, ReplayRefused}
@@ -73,7 +74,7 @@ module _ (s g : State) (space : List ℕ) where
       let w = with.deadlock-refusal none s g space k p (refused k p (deadlock-none s g space) r) in
       (sym (as-before .deadlock s g space) ∙ w .0, sym (as-before .deadlock-space s g space) ∙ w .1)
 
-  pub deadlock-accepts : (firstNo (deadlockQuestions s g space) ≡ allYes) ↔ (Accepted s g × (2 * length s ≤ length space))
+  pub deadlock-accepts : (firstNo (deadlockQuestions s g space) ≡ allYes) ↔ (Accepted s g × (shownWidth * length s ≤ length space))
   deadlock-accepts = answered (deadlock-none s g space) (with.deadlock-accepts none s g space) (Iff·and plainly Iff·rfl)
 
 -- ---- replay

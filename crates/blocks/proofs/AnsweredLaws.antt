@@ -11,7 +11,8 @@ use Rattle.blocks.specs.State.{State}
 use Rattle.blocks.specs.Position.{Accepted}
 use Rattle.blocks.specs.Move.{Plan, Solves}
 use Rattle.blocks.specs.Tests.{misplacedCount}
-use Rattle.blocks.specs.Method.{Method, Us, Gn1, Gn2, plan, outcome, built, deadlockLoop, deadlockPairs, methodOf, numberOf, outcomeBy, planOf, planOutcome}
+use Rattle.blocks.specs.Loop.{shownWidth}
+use Rattle.blocks.specs.Method.{Method, Us, Gn1, Gn2, plan, outcome, built, deadlockLoop, deadlockRows, methodOf, numberOf, outcomeBy, planOf, planOutcome}
 use Rattle.blocks.specs.Question.{Question, allYes, firstNo, FirstNo, IsMethod, asksMethod, asksSize, asksRoom, asksPlan}
 use Rattle.blocks.specs.Question.{problemQuestions, planQuestions, deadlockQuestions, Refused, PlanRefused, DeadlockRefused}
 use Rattle.blocks.specs.Steps.{By, ByTest}
@@ -19,7 +20,7 @@ use Rattle.blocks.specs.Answer.{flat, moves, planned, written, planAnswe
 use Rattle.blocks.specs.Answer.{tested, deadlockAnswer, deadlockSpace}
 use Rattle.blocks.specs.Sheets.{Limits}
 use Rattle.blocks.proofs.MethodLaws.{method-written}
-use Rattle.blocks.proofs.DeadlockTestLaws.{pairs-length}
+use Rattle.blocks.proofs.DeadlockTestLaws.{rows-length}
 use Rattle.blocks.proofs.DeadlockToldLaws.{deadlock-told}
 use Rattle.blocks.proofs.FlatLaws.{length-flat, pairs-back}
 use Rattle.blocks.proofs.QuestionLaws.{sentence-append}
@@ -53,18 +54,18 @@ plan-answers m s g space a h p e = (
     yes-all : firstNo (planQuestions (numberOf m) s g space) ≡ allYes
     yes-all = plan-accepts (numberOf m) s g space .1 (is-method m, a, h)
 
-pairs-size : (s g : State) → length (deadlockPairs s g) ≡ 2 * length (deadlockLoop s g)
-unfolding deadlockPairs
-pairs-size s g = pairs-length (built s g) g (deadlockLoop s g)
+rows-size : (s g : State) → length (deadlockRows s g) ≡ shownWidth * length (deadlockLoop s g)
+unfolding deadlockRows
+rows-size s g = rows-length (built s g) g (deadlockLoop s g)
 
-pub deadlock-answers : (s g : State) (space : List ℕ) → Accepted s g → 2 * length s ≤ length space
+pub deadlock-answers : (s g : State) (space : List ℕ) → Accepted s g → shownWidth * length s ≤ length space
     → (deadlockAnswer s g space ≡ record { number = 0; place = 0; count = length (deadlockLoop s g) })
-    × (deadlockSpace s g space ≡ deadlockPairs s g ++ drop (2 * length (deadlockLoop s g)) space)
-unfolding deadlockAnswer deadlockSpace deadlockPairs
+    × (deadlockSpace s g space ≡ deadlockRows s g ++ drop (shownWidth * length (deadlockLoop s g)) space)
+unfolding deadlockAnswer deadlockSpace deadlockRows
 deadlock-answers s g space a h = (
   ap (λ v. tested v (deadlockLoop s g)) yes-all,
-  ap (λ v. written v (deadlockPairs s g) space) yes-all
-      ∙ ap (λ k. deadlockPairs s g ++ drop k space) (pairs-size s g),
+  ap (λ v. written v (deadlockRows s g) space) yes-all
+      ∙ ap (λ k. deadlockRows s g ++ drop k space) (rows-size s g),
 )
   where
     yes-all : firstNo (deadlockQuestions s g space) ≡ allYes
@@ -90,18 +91,20 @@ module _ (m : Method) (s g : State) (space : List ℕ) (a : Accepted s g) (h : 4
   pub written-told : By m s g (writtenPlan (planAnswer (numberOf m) s g space) (planSpace (numberOf m) s g space))
   written-told = subst (By m s g) (sym written-is) (method-written m s g (a .problem) .2 .told)
 
--- and so are the pairs of the deadlock test
-pub deadlock-written : (s g : State) (space : List ℕ) → Accepted s g → 2 * length s ≤ length space
-    → (l : List ℕ) × (length l ≡ (deadlockAnswer s g space) .count) × ByTest s g l (take (2 * (deadlockAnswer s g space) .count) (deadlockSpace s g space))
+-- and so are the rows of the deadlock test
+pub deadlock-written : (s g : State) (space : List ℕ) → Accepted s g → shownWidth * length s ≤ length space
+    → (l : List ℕ) × (length l ≡ (deadlockAnswer s g space) .count)
+    × ByTest s g l (take (shownWidth * (deadlockAnswer s g space) .count) (deadlockSpace s g space))
 deadlock-written s g space a h =
     let r = deadlock-answers s g space a h in
     let l = deadlockLoop s g in
     let count : length l ≡ (deadlockAnswer s g space) .count = sym (ap (λ o. o .count) (r .0)) in
-    let size : length (deadlockPairs s g) ≡ 2 * length l = pairs-size s g in
-    let front : take (2 * length l) (deadlockPairs s g ++ drop (2 * length l) space) ≡ deadlockPairs s g = take-at (deadlockPairs s g) (drop (2 * length l) space) (2 * length l) size in
-    let same : take (2 * (deadlockAnswer s g space) .count) (deadlockSpace s g space) ≡ deadlockPairs s g =
-    ap₂ (λ c k. take (2 * c) k) (sym count) (r .1) ∙ front in
-    (l, count, subst (ByTest s g l) (sym same) (deadlock-told s g (a .problem) l (deadlockPairs s g) .0 (refl, refl)))
+    let size : length (deadlockRows s g) ≡ shownWidth * length l = rows-size s g in
+    let k = shownWidth * length l in
+    let front : take k (deadlockRows s g ++ drop k space) ≡ deadlockRows s g = take-at (deadlockRows s g) (drop k space) k size in
+    let same : take (shownWidth * (deadlockAnswer s g space) .count) (deadlockSpace s g space) ≡ deadlockRows s g =
+    ap₂ (λ c k. take (shownWidth * c) k) (sym count) (r .1) ∙ front in
+    (l, count, subst (ByTest s g l) (sym same) (deadlock-told s g (a .problem) l (deadlockRows s g) .0 (refl, refl)))
 
 -- ---- the limits of sheets and of the lent space
 
@@ -119,9 +122,9 @@ unfolding planQuestions asksMethod
 plan-cramped m s g space a e =
     inr (is-method m, sentence-append (problemQuestions s g) _ 10 0 .1 (inr (problem-yes s g .1 a, room-no (4 * length s) space (asksPlan (planOutcome (numberOf m) s g) ∷ []) e)))
 
-deadlock-cramped : (s g : State) (space : List ℕ) → Accepted s g → length space + 1 ≡ 2 * length s → DeadlockRefused s g space 10 0
+deadlock-cramped : (s g : State) (space : List ℕ) → Accepted s g → length space + 1 ≡ shownWidth * length s → DeadlockRefused s g space 10 0
 unfolding deadlockQuestions
-deadlock-cramped s g space a e = sentence-append (problemQuestions s g) _ 10 0 .1 (inr (problem-yes s g .1 a, room-no (2 * length s) space [] e))
+deadlock-cramped s g space a e = sentence-append (problemQuestions s g) _ 10 0 .1 (inr (problem-yes s g .1 a, room-no (shownWidth * length s) space [] e))
 
 pub limits : Limits
 limits =
@@ -132,6 +135,6 @@ limits =
           let w = method-written m s g (a .problem) in
           ap (λ o. o .number) (plan-answers m s g space a (omega (arith, e)) (w .0) (w .1) .0);
       room-refused = λ m s g space a e. plan-refusal (numberOf m) s g space 10 0 (plan-cramped m s g space a e) .0;
-      pairs-pass = λ s g space a e. ap (λ o. o .number) (deadlock-answers s g space a (omega (arith, e)) .0);
-      pairs-refused = λ s g space a e. deadlock-refusal s g space 10 0 (deadlock-cramped s g space a e) .0;
+      rows-pass = λ s g space a e. ap (λ o. o .number) (deadlock-answers s g space a (omega (arith, e)) .0);
+      rows-refused = λ s g space a e. deadlock-refusal s g space 10 0 (deadlock-cramped s g space a e) .0;
     }

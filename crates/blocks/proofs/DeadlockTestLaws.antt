@@ -8,20 +8,21 @@ use native.Mathlib.Omega.{arith}
 use native.Mathlib.Nat.{le-of-suc-le-suc}
 use lib.ListN.{length, getD}
 use Rattle.blocks.specs.State.{State}
-use Rattle.blocks.specs.Position.{Problem}
+use Rattle.blocks.specs.Position.{Problem, Nearest}
 use Rattle.blocks.specs.Move.{Plan, after}
-use Rattle.blocks.specs.Tests.{misplacedCount}
+use Rattle.blocks.specs.Tests.{nearest, misplacedCount}
 use Rattle.blocks.specs.Deadlock.{Deadlock}
-use Rattle.blocks.specs.Loop.{loop, blocker, onward, blockedPairs}
-use Rattle.blocks.specs.Method.{endOf, built, deadlockLoop, deadlockPairs}
+use Rattle.blocks.specs.Loop.{loop, blocker, onward, blockedRows, shownWidth}
+use Rattle.blocks.specs.Method.{endOf, built, deadlockLoop, deadlockRows}
 use Rattle.blocks.specs.Demands.{NoDeadlock, Shown}
 use Rattle.blocks.specs.Stall.{IsLoop, NoneReady}
 use Rattle.blocks.specs.Steps.{Builds}
 use Rattle.lists.proofs.ReflectLaws.{Reflects, holds, fails, eqb-reflects}
 use Rattle.blocks.proofs.DeadlockLaws.{deadlock-stands, deadlock-old}
+use Rattle.blocks.proofs.NearestLaws.{nearest-is}
 use Rattle.blocks.proofs.MisplacedLaws.{none-misplaced, some-misplaced}
 use Rattle.blocks.proofs.LoopLaws.{loop-closed, loop-short, onward-closed, onward-length, onward-lowest, loop-deadlock}
-use Rattle.blocks.proofs.RunLaws.{Run, run-end, run-with, run-back}
+use Rattle.blocks.proofs.RunLaws.{Run, run-end, run-told, run-with, run-back}
 use Rattle.blocks.proofs.StepLaws.{builds-constructive}
 use Rattle.blocks.proofs.MethodLaws.{building-runs, enough}
 
@@ -52,23 +53,30 @@ built-is {s} {g} p = let r = built-run p in subst (Built s g) (sym (r .1)) (at (
           had = λ {k} {b} {d} h. run-back (λ t. Deadlock t g k b d) (λ t a x i c w. deadlock-old (builds-constructive c) w) r h;
         }
 
--- ---- the pairs
+-- ---- the rows
 
-pub pairs-at : (s g : State) (l : List ℕ) (i : ℕ) → i < length l
-    → (getD (blockedPairs s g l) (2 * i) 0 ≡ getD l i 0) × (getD (blockedPairs s g l) (2 * i + 1) 0 ≡ blocker s g (getD l i 0))
-unfolding blockedPairs
-pairs-at s g [] i h = absurd (omega arith)
-pairs-at s g (b ∷ l) zero h = (refl, refl)
-pairs-at s g (b ∷ l) (suc i) h =
-    let r = pairs-at s g l i (le-of-suc-le-suc h) in
-    let even : 2 * suc i ≡ suc (suc (2 * i)) = omega arith in
-    let odd : 2 * suc i + 1 ≡ suc (suc (2 * i + 1)) = omega arith in
-    (ap (λ k. getD (b ∷ blocker s g b ∷ blockedPairs s g l) k 0) even ∙ r .0, ap (λ k. getD (b ∷ blocker s g b ∷ blockedPairs s g l) k 0) odd ∙ r .1)
+pub rows-at : (s g : State) (l : List ℕ) (i : ℕ) → i < length l
+    → (getD (blockedRows s g l) (shownWidth * i) 0 ≡ getD l i 0) × (getD (blockedRows s g l) (shownWidth * i + 1) 0 ≡ blocker s g (getD l i 0))
+    × (getD (blockedRows s g l) (shownWidth * i + 2) 0 ≡ nearest s g (getD l i 0))
+unfolding blockedRows
+rows-at s g [] i h = absurd (omega arith)
+rows-at s g (b ∷ l) zero h = (refl, refl, refl)
+rows-at s g (b ∷ l) (suc i) h =
+    let r = rows-at s g l i (le-of-suc-le-suc h) in
+    let w = shownWidth in (
+      behind (w * suc i) (w * i) (omega arith) ∙ r .0,
+      behind (w * suc i + 1) (w * i + 1) (omega arith) ∙ r .1,
+      behind (w * suc i + 2) (w * i + 2) (omega arith) ∙ r .2,
+    )
+  where
+    -- one row lies before
+    behind : (k j : ℕ) → k ≡ suc (suc (suc j)) → getD (b ∷ blocker s g b ∷ nearest s g b ∷ blockedRows s g l) k 0 ≡ getD (blockedRows s g l) j 0
+    behind k j e = ap (λ k. getD (b ∷ blocker s g b ∷ nearest s g b ∷ blockedRows s g l) k 0) e
 
-pub pairs-length : (s g : State) (l : List ℕ) → length (blockedPairs s g l) ≡ 2 * length l
-unfolding blockedPairs
-pairs-length s g [] = refl
-pairs-length s g (b ∷ l) = let r = pairs-length s g l in omega arith
+pub rows-length : (s g : State) (l : List ℕ) → length (blockedRows s g l) ≡ shownWidth * length l
+unfolding blockedRows
+rows-length s g [] = refl
+rows-length s g (b ∷ l) = let r = rows-length s g l in omega arith
 
 -- ---- the test
 
@@ -96,15 +104,23 @@ module _ {s g : State} (p : Problem s g) where
   none : misplacedCount (built s g) g ≡ 0 → NoDeadlock s g
   none e l k = let h = w .keeps (k .holds) in h .misplaced 0 (h .some) (none-misplaced (w .problem) e (getD l 0 0))
 
-  found : (n : misplacedCount (built s g) g ≢ 0) → Shown s g (onward (built s g) (loop (built s g) g)) (blockedPairs (built s g) g (onward (built s g) (loop (built s g) g)))
+  found : (n : misplacedCount (built s g) g ≢ 0)
+      → Shown s g (onward (built s g) (loop (built s g) g)) (blockedRows (built s g) g (onward (built s g) (loop (built s g) g)))
   found n =
       let l = onward (built s g) (loop (built s g) g) in
       let k = loop-deadlock (w .problem) (w .stalled) (onward-closed (w .problem) (closed n)) in
+      let run = built-run p in
       record {
         d = k .0;
         deadlock = w .had (k .1);
-        slab = λ i h. pairs-at (built s g) g l i h .0;
-        beside = λ i h. pairs-at (built s g) g l i h .1 ∙ sym (k .2 i h);
+        slab = λ i h. rows-at (built s g) g l i h .0;
+        beside = λ i h. rows-at (built s g) g l i h .1 ∙ sym (k .2 i h);
+        moves = run .0;
+        stalls = run-told (run .2);
+        third = λ i h.
+            let c = nearest-is (w .problem) (getD l i 0) (onward-closed (w .problem) (closed n) .waiting i h .0) in
+            subst (λ t. Nearest t g (getD l i 0) (getD (blockedRows (built s g) g l) (shownWidth * i + 2) 0)) (run .1)
+            (subst (Nearest (built s g) g (getD l i 0)) (sym (rows-at (built s g) g l i h .2)) c);
         lowest = λ i h. onward-lowest (w .problem) (closed n) i (rw (onward-length (built s g) (loop (built s g) g)) at h);
       }
 
@@ -117,11 +133,11 @@ module _ {s g : State} (p : Problem s g) where
           let k = found n in
           (λ z. absurd (omega (arith, z, k .deadlock .some)), λ free. absurd (free (onward (built s g) (loop (built s g) g)) (record { d = k .d; holds = k .deadlock })))
 
-  pub deadlock-shown : length (deadlockLoop s g) ≢ 0 → Shown s g (deadlockLoop s g) (deadlockPairs s g)
-  unfolding deadlockPairs
+  pub deadlock-shown : length (deadlockLoop s g) ≢ 0 → Shown s g (deadlockLoop s g) (deadlockRows s g)
+  unfolding deadlockRows
   deadlock-shown = by tested
     where
-      by : {l : List ℕ} → Test l → length l ≢ 0 → Shown s g l (blockedPairs (built s g) g l)
+      by : {l : List ℕ} → Test l → length l ≢ 0 → Shown s g l (blockedRows (built s g) g l)
       by (clean e) h = absurd (h refl)
       by (looped n) h = found n
 
@@ -139,6 +155,6 @@ module _ {s g : State} (p : Problem s g) where
             w .problem .same,
           )
 
-pub deadlock-fits : (s g : State) → Problem s g → length (deadlockPairs s g) ≤ 2 * length s
-unfolding deadlockPairs
-deadlock-fits s g p = omega (arith, pairs-length (built s g) g (deadlockLoop s g), deadlock-short p)
+pub deadlock-fits : (s g : State) → Problem s g → length (deadlockRows s g) ≤ shownWidth * length s
+unfolding deadlockRows
+deadlock-fits s g p = omega (arith, rows-length (built s g) g (deadlockLoop s g), deadlock-short p)

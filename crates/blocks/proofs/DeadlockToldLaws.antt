@@ -11,22 +11,24 @@ use lib.ListN.{length, getD, take, drop, length-append, List·getD-append}
 use lib.Seq.{ext-getD, getD-append-add, take-append-seam, drop-append-seam}
 use Rattle.lists.specs.Search.{Lowest}
 use Rattle.blocks.specs.State.{State}
-use Rattle.blocks.specs.Position.{Proper, Problem}
+use Rattle.blocks.specs.Position.{Proper, Problem, Nearest}
 use Rattle.blocks.specs.Move.{Plan, after}
 use Rattle.blocks.specs.Tests.{misplacedCount}
-use Rattle.blocks.specs.Loop.{memberᵇ, from, before, loop, lowestOf, onward, blockedPairs}
-use Rattle.blocks.specs.Method.{deadlockLoop, deadlockPairs}
+use Rattle.blocks.specs.Loop.{memberᵇ, from, before, loop, lowestOf, onward, blockedRows, shownWidth}
+use Rattle.blocks.specs.Method.{deadlockLoop, deadlockRows}
+use Rattle.blocks.specs.Demands.{Shown}
 use Rattle.blocks.specs.Stall.{IsLoop}
-use Rattle.blocks.specs.Steps.{On, LoopOf, InTheWay, NoneMisplaced, Stalled, Onward, Pairs, ByTest, none, found}
+use Rattle.blocks.specs.Steps.{On, LoopOf, InTheWay, NoneMisplaced, Stalled, Onward, Rows, ByTest, none, found}
 use Rattle.lists.proofs.ReflectLaws.{Reflects, holds, fails, from-true, to-true, same?, eqb-reflects}
 use Rattle.lists.proofs.SearchLaws.{lowest-only, lowest-alike}
+use Rattle.blocks.proofs.NearestLaws.{nearest-is, nearest-only}
 use Rattle.blocks.proofs.MisplacedLaws.{none-misplaced, some-misplaced}
 use Rattle.blocks.proofs.StallLaws.{blocker-told, way-only}
 use Rattle.blocks.proofs.LoopLaws.{Once, member-reflects, member-append, before-from, from-some, lowest-member, lowest-on, onward-first, onward-members, onward-closed, loop-closed}
 use Rattle.blocks.proofs.LoopToldLaws.{loop-is, loop-only, one-place}
 use Rattle.blocks.proofs.RunLaws.{run-end, run-told}
 use Rattle.blocks.proofs.MethodLaws.{building-kept, building-only}
-use Rattle.blocks.proofs.DeadlockTestLaws.{Building, built-run, pairs-at, pairs-length}
+use Rattle.blocks.proofs.DeadlockTestLaws.{Building, built-run, rows-at, rows-length}
 
 -- ---- the test gives what the words give
 
@@ -57,18 +59,20 @@ module _ {t g : State} (p : Problem t g) (h : Stalled t g) where
         lowest = subst (Lowest (On (onward t l)) (length t)) (sym (onward-first p closed)) (lowest-alike (λ b. (same b .1, same b .0)) (lowest-on p closed));
       }
 
-  pairs-told : Pairs t g (onward t (loop t g)) (blockedPairs t g (onward t (loop t g)))
-  pairs-told =
+  rows-told : Rows t g (onward t (loop t g)) (blockedRows t g (onward t (loop t g)))
+  rows-told =
       let l = onward t (loop t g) in
       record {
-        size = pairs-length t g l;
-        slab = λ i k. pairs-at t g l i k .0;
+        size = rows-length t g l;
+        slab = λ i k. rows-at t g l i k .0;
         way = λ i k.
-            subst (InTheWay t g (getD l i 0)) (sym (pairs-at t g l i k .1)) (blocker-told p (h .none-ready) (getD l i 0) (onward-closed p closed .waiting i k));
+            subst (InTheWay t g (getD l i 0)) (sym (rows-at t g l i k .1)) (blocker-told p (h .none-ready) (getD l i 0) (onward-closed p closed .waiting i k));
+        nearest = λ i k.
+            subst (Nearest t g (getD l i 0)) (sym (rows-at t g l i k .2)) (nearest-is p (getD l i 0) (onward-closed p closed .waiting i k .0));
       }
 
-built-told : {s g : State} (q : Plan) → Building g s q → ByTest s g (loopAt (after s q) g) (blockedPairs (after s q) g (loopAt (after s q) g))
-unfolding blockedPairs
+built-told : {s g : State} (q : Plan) → Building g s q → ByTest s g (loopAt (after s q) g) (blockedRows (after s q) g (loopAt (after s q) g))
+unfolding blockedRows
 built-told {s} {g} q r = by (eqb-reflects (misplacedCount t g) 0)
   where
     t : State
@@ -78,18 +82,18 @@ built-told {s} {g} q r = by (eqb-reflects (misplacedCount t g) 0)
     p = run-end r .0
 
     by : {c : Bool} → Reflects (misplacedCount t g ≡ 0) c
-        → ByTest s g (cond c [] (onward t (loop t g))) (blockedPairs t g (cond c [] (onward t (loop t g))))
+        → ByTest s g (cond c [] (onward t (loop t g))) (blockedRows t g (cond c [] (onward t (loop t g))))
     by (holds e) = none q (run-told r) (λ b m. m (none-misplaced p e b)) refl refl
     by (fails n) =
         let m = some-misplaced p n in
         let h : Stalled t g = record { block = m .0; misplaced = m .1; none-ready = run-end r .1 } in
-        found q (run-told r) h (onward-told p h) (pairs-told p h)
+        found q (run-told r) h (onward-told p h) (rows-told p h)
 
-deadlock-is : {s g : State} → Problem s g → ByTest s g (deadlockLoop s g) (deadlockPairs s g)
-unfolding deadlockLoop deadlockPairs
+deadlock-is : {s g : State} → Problem s g → ByTest s g (deadlockLoop s g) (deadlockRows s g)
+unfolding deadlockLoop deadlockRows
 deadlock-is {s} {g} p =
     let r = built-run p in
-    subst (λ t. ByTest s g (loopAt t g) (blockedPairs t g (loopAt t g))) (sym (r .1)) (built-told (r .0) (r .2))
+    subst (λ t. ByTest s g (loopAt t g) (blockedRows t g (loopAt t g))) (sym (r .1)) (built-told (r .0) (r .2))
 
 -- ---- the words give one answer
 
@@ -137,16 +141,20 @@ onward-only {t} {g} p {l} {m} a b =
     let fronts : a .front ≡ b .front = sym (take-append-seam (a .front) (a .back)) ∙ ap₂ (λ i k. take i k) at same ∙ take-append-seam (b .front) (b .back) in
     a .turned ∙ ap₂ (λ x y. x ++ y) backs fronts ∙ sym (b .turned)
 
-pairs-only : {t g : State} {l k m : List ℕ} → Pairs t g l k → Pairs t g l m → k ≡ m
-pairs-only {t} {g} {l} {k} {m} a b = ext-getD 0 k m (a .size ∙ sym (b .size)) (λ i h. half i (omega (arith, a .size, h)) (same? i (2 * (i / 2))))
+rows-only : {t g : State} {l k m : List ℕ} → Rows t g l k → Rows t g l m → k ≡ m
+rows-only {t} {g} {l} {k} {m} a b =
+    ext-getD 0 k m (a .size ∙ sym (b .size)) (λ i h. third i (omega (arith, a .size, h)) (same? i (shownWidth * (i / 3))) (same? i (shownWidth * (i / 3) + 1)))
   where
-    at : (i j : ℕ) → j < length l → (i ≡ 2 * j) ⊎ (i ≡ 2 * j + 1) → getD k i 0 ≡ getD m i 0
-    at i j h (inl e) = ap (λ n. getD k n 0) e ∙ a .slab j h ∙ sym (b .slab j h) ∙ ap (λ n. getD m n 0) (sym e)
-    at i j h (inr e) = ap (λ n. getD k n 0) e ∙ way-only (a .way j h) (b .way j h) ∙ ap (λ n. getD m n 0) (sym e)
+    at : {i e : ℕ} → i ≡ e → getD k e 0 ≡ getD m e 0 → getD k i 0 ≡ getD m i 0
+    at q h = ap (λ n. getD k n 0) q ∙ h ∙ ap (λ n. getD m n 0) (sym q)
 
-    half : (i : ℕ) → i / 2 < length l → (i ≡ 2 * (i / 2)) ⊎ (¬ (i ≡ 2 * (i / 2))) → getD k i 0 ≡ getD m i 0
-    half i h (inl e) = at i (i / 2) h (inl e)
-    half i h (inr n) = at i (i / 2) h (inr (omega (arith, n)))
+    third : (i : ℕ) → i / 3 < length l → (i ≡ shownWidth * (i / 3)) ⊎ (¬ (i ≡ shownWidth * (i / 3)))
+        → (i ≡ shownWidth * (i / 3) + 1) ⊎ (¬ (i ≡ shownWidth * (i / 3) + 1)) → getD k i 0 ≡ getD m i 0
+    third i h (inl e) _ = at e (a .slab (i / 3) h ∙ sym (b .slab (i / 3) h))
+    third i h (inr n) (inl e) = at e (way-only (a .way (i / 3) h) (b .way (i / 3) h))
+    third i h (inr n) (inr f) =
+        let e : i ≡ shownWidth * (i / 3) + 2 = omega (arith, n, f) in
+        at e (nearest-only (a .nearest (i / 3) h) (b .nearest (i / 3) h))
 
 tests-only : {s g : State} → Problem s g → {l k l′ k′ : List ℕ} → ByTest s g l k → ByTest s g l′ k′ → (l ≡ l′) × (k ≡ k′)
 tests-only i (none p v h e f) (none p′ v′ h′ e′ f′) = (e ∙ sym e′, f ∙ sym f′)
@@ -157,11 +165,18 @@ tests-only {s} {g} i (found p v h o c) (none p′ v′ h′ e′ f′) =
 tests-only {s} {g} i {l} {k} {l′} {k′} (found p v h o c) (found p′ v′ h′ o′ c′) =
     let there = building-only i v′ v in
     let same : l ≡ l′ = onward-only (building-kept i v .initial) o (subst (λ q. Onward (after s q) g l′) there o′) in
-    (same, pairs-only c (subst (λ m. Pairs (after s p) g m k′) (sym same) (subst (λ q. Pairs (after s q) g l′ k′) there c′)))
+    (same, rows-only c (subst (λ m. Rows (after s p) g m k′) (sym same) (subst (λ q. Rows (after s q) g l′ k′) there c′)))
+
+-- the lifts before the stall are those of the words, and there is one c
+pub third-only : (s g : State) → Problem s g → (blocks rows rows′ : List ℕ) → Shown s g blocks rows → Shown s g blocks rows′
+    → (i : ℕ) → i < length blocks → getD rows (shownWidth * i + 2) 0 ≡ getD rows′ (shownWidth * i + 2) 0
+third-only s g p blocks rows rows′ a b i h =
+    let there = building-only p (b .stalls) (a .stalls) in
+    nearest-only (a .third i h) (subst (λ q. Nearest (after s q) g (getD blocks i 0) (getD rows′ (shownWidth * i + 2) 0)) there (b .third i h))
 
 -- the test gives an answer exactly where the words give it
-pub deadlock-told : (s g : State) → Problem s g → (l pairs : List ℕ) → ((deadlockLoop s g ≡ l) × (deadlockPairs s g ≡ pairs)) ↔ ByTest s g l pairs
-deadlock-told s g p l pairs = (
-  λ e. subst (ByTest s g l) (e .1) (subst (λ k. ByTest s g k (deadlockPairs s g)) (e .0) (deadlock-is p)),
+pub deadlock-told : (s g : State) → Problem s g → (l rows : List ℕ) → ((deadlockLoop s g ≡ l) × (deadlockRows s g ≡ rows)) ↔ ByTest s g l rows
+deadlock-told s g p l rows = (
+  λ e. subst (ByTest s g l) (e .1) (subst (λ k. ByTest s g k (deadlockRows s g)) (e .0) (deadlock-is p)),
   λ w. tests-only p (deadlock-is p) w,
 )

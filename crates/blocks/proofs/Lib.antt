@@ -4,6 +4,7 @@ pub mod TowerLaws
 pub mod GroundLaws
 pub mod ClearLaws
 pub mod PositionLaws
+pub mod NearestLaws
 pub mod DeadlockLaws
 pub mod MisplacedLaws
 pub mod BoundLaws

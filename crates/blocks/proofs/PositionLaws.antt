@@ -1,14 +1,15 @@
 -- Laws of in position and of the tests that methods ask: each test is true exactly where its notion holds. Assumes nothing.
-use mathlib.Core.Path.{_≡_, refl, sym, ap, _∙_}
+use mathlib.Core.Path.{_≡_, refl, sym, ap, _∙_, subst}
 use mathlib.Core.Logic.{_⊎_, inl, inr}
+use mathlib.Core.Bool.{Bool, true, false, cond}
 use Prim.Native.Nat.{ℕ, zero, suc, _+_, _≤_, _<_}
 use native.Mathlib.Omega.{arith}
 use native.Mathlib.Nat.{le-of-suc-le-suc}
 use lib.ListN.{length}
 use Rattle.blocks.specs.State.{State, Block, support, put, down, Clear}
-use Rattle.blocks.specs.Position.{Proper, Problem, InPosition, Misplaced}
+use Rattle.blocks.specs.Position.{Proper, Problem, InPosition, Misplaced, inPosition, misplacedAbove}
 use Rattle.blocks.specs.Move.{Legal, Constructive}
-use Rattle.blocks.specs.Tests.{agreesᵇ, inPositionᵇ, misplacedᵇ, waitingᵇ, readyᵇ, perchedᵇ}
+use Rattle.blocks.specs.Tests.{agreesᵇ, towerAgreesᵇ, firstRight, position, isRight, inPositionᵇ, misplacedᵇ, waitingᵇ, readyᵇ, perchedᵇ}
 use Rattle.blocks.specs.Stall.{Perched, Waiting}
 use Rattle.lists.proofs.ReflectLaws.{Reflects, not-not, decided, reflects-not, reflects-and, reflects-iff, eqb-reflects, leb-reflects}
 use Rattle.blocks.proofs.StateLaws.{support-outside, same-supports, down-suc, down-add, down-table, down-more}
@@ -90,9 +91,9 @@ agrees-reflects s g (suc k) b =
     both h zero l = h .0
     both h (suc j) l = h .1 j (le-of-suc-le-suc l)
 
-pub position-test : (s g : State) → Proper s → (b : ℕ) → Reflects (InPosition s g b) (inPositionᵇ s g b)
-unfolding inPositionᵇ
-position-test s g p b = reflects-iff far (λ i j l. i .agrees j) (agrees-reflects s g (length s) b)
+-- the test of the whole tower
+pub tower-test : (s g : State) → Proper s → (b : ℕ) → Reflects (InPosition s g b) (towerAgreesᵇ s g b)
+tower-test s g p b = reflects-iff far (λ i j l. i .agrees j) (agrees-reflects s g (length s) b)
   where
     beyond : (k : ℕ) → length s < k → down s k b ≡ 0
     beyond k l = down-more s (suc (length s)) k b l (all-down s p b)
@@ -103,6 +104,15 @@ position-test s g p b = reflects-iff far (λ i j l. i .agrees j) (agrees-reflect
         at : (k : ℕ) → (k ≤ length s) ⊎ (¬ (k ≤ length s)) → support s (down s k b) ≡ support g (down s k b)
         at k (inl l) = h k l
         at k (inr n) = let z : down s k b ≡ 0 = beyond k (omega (arith, n)) in ap (support s) z ∙ ap (support g) (sym z)
+
+-- it decides which of its two answers the position test gives
+pub position-test : (s g : State) → Proper s → (b : ℕ) → Reflects (InPosition s g b) (inPositionᵇ s g b)
+unfolding inPositionᵇ position
+position-test s g p b = subst (Reflects (InPosition s g b)) (by (towerAgreesᵇ s g b)) (tower-test s g p b)
+  where
+    by : (t : Bool) → t ≡ isRight (cond t inPosition (misplacedAbove (firstRight s g (length s) (support g b))))
+    by true = refl
+    by false = refl
 
 pub misplaced-test : (s g : State) → Proper s → (b : ℕ) → Reflects (Misplaced s g b) (misplacedᵇ s g b)
 unfolding misplacedᵇ

@@ -1,23 +1,24 @@
 -- The successor in a stalled state (docs/WHY.md, step 7): it is misplaced and clear, above the blocker now, and the block is above the blocker in the goal.
 -- Idea: the top of a misplaced block's tower is misplaced; on the goal support of the lowest misplaced block the goal puts that block only. Assumes nothing.
 use mathlib.Core.Path.{_≡_, refl, sym, ap, _∙_, subst}
-use mathlib.Core.Logic.{_≢_}
+use mathlib.Core.Logic.{_⊎_, inl, inr, _≢_}
 use mathlib.Core.Bool.{Bool, cond}
-use Prim.Native.Nat.{ℕ, zero, suc, _+_, _≤_, _<_}
+use Prim.Native.Nat.{ℕ, zero, suc, _+_, _≤_}
 use native.Mathlib.Omega.{arith}
 use lib.ListN.{length}
 use Rattle.blocks.specs.State.{State, support, down, Above, Clear}
-use Rattle.blocks.specs.Position.{Proper, Problem, InPosition, Misplaced}
-use Rattle.blocks.specs.Tests.{load}
-use Rattle.blocks.specs.Loop.{lastMisplaced, blocker, top, successor}
-use Rattle.blocks.specs.Stall.{NoneReady, Waiting}
+use Rattle.blocks.specs.Position.{Proper, Problem, InPosition, Misplaced, Nearest}
+use Rattle.blocks.specs.Tests.{load, nearest}
+use Rattle.blocks.specs.Loop.{restsOn, lastMisplaced, blocker, top, successor}
+use Rattle.blocks.specs.Stall.{Ready, NoneReady, Waiting}
 use Rattle.blocks.specs.Steps.{Foot, InTheWay, onto, under, Successor}
-use Rattle.lists.proofs.ReflectLaws.{Reflects, holds, fails}
-use Rattle.blocks.proofs.StateLaws.{down-suc, down-table}
+use Rattle.lists.proofs.ReflectLaws.{Reflects, holds, fails, decided, eqb-reflects, leb-reflects}
+use Rattle.blocks.proofs.StateLaws.{down-suc, down-table, down-more}
 use Rattle.blocks.proofs.TowerLaws.{Reaches, clear-unique}
 use Rattle.blocks.proofs.GroundLaws.{ground-bound}
 use Rattle.blocks.proofs.ClearLaws.{load-rests, load-block, load-none, clear-test, clear-table}
-use Rattle.blocks.proofs.PositionLaws.{position-table, position-beneath, misplaced-block, position-test, ready-constructive}
+use Rattle.blocks.proofs.PositionLaws.{position-table, position-beneath, misplaced-block, ready-constructive}
+use Rattle.blocks.proofs.NearestLaws.{nearest-is, same-steps, nearest-only}
 
 -- what is above a block is off the table
 pub above-off-table : {s : State} {a b : ℕ} → Above s a b → support s a ≢ 0
@@ -30,6 +31,13 @@ reaches-above {s} {a} {b} r h z = by (r .0) (r .1)
     by : (k : ℕ) → down s k a ≡ b → Above s a b
     by zero e = absurd (h e)
     by (suc k) e = record { steps = k; reaches = e; block = z }
+
+-- d is at or beneath b in the goal, and rests there on c
+pub foot-reaches : {s g : State} {b c d : ℕ} → Foot s g b c d → Reaches g b d
+foot-reaches f = (f .nearest .steps, f .last)
+
+pub foot-rests : {s g : State} {b c d : ℕ} → Foot s g b c d → support g d ≡ c
+foot-rests {g = g} {b} f = ap (support g) (sym (f .last)) ∙ sym (down-suc g (f .nearest .steps) b) ∙ f .nearest .beneath
 
 module _ {s g : State} (p : Problem s g) where
   -- the climb that has come j steps up from b, to c
@@ -61,42 +69,55 @@ module _ {s g : State} (p : Problem s g) where
       let t = top-clear b (misplaced-nonzero m) (misplaced-block (p .same) m .high) in
       (λ i. m (subst (InPosition s g) (t .1 .1) (position-beneath i (t .1 .0))), t .0)
 
-  -- d is misplaced, and beneath b in the goal with every block between them
-  abbrev LastOf : ℕ → ℕ → Type 0
-  LastOf b d = Misplaced s g d × Foot s g b (support g d) d
-
-  descend : (k b : ℕ) → Misplaced s g b → down g k b ≡ 0 → LastOf b (lastMisplaced s g k b)
-  unfolding lastMisplaced
-  descend zero b m e = absurd (misplaced-nonzero m e)
-  descend (suc k) b m e = go (position-test s g (p .initial) (support g b)) (λ n. descend k (support g b) n e)
+  -- d: so many steps down from b as are before c
+  rests-on : {b c : ℕ} (n : Nearest s g b c) (k : ℕ) → n .steps ≤ k → restsOn g c k b ≡ down g (n .steps) b
+  unfolding restsOn
+  rests-on {b} {c} n k l = walk k (n .steps) b l (n .beneath) (λ i low h e. n .between i h (subst (InPosition s g) (sym e) (n .right)))
     where
-      go : {t : Bool} → Reflects (InPosition s g (support g b)) t →
-          (Misplaced s g (support g b) → LastOf (support g b) (lastMisplaced s g k (support g b))) →
-          LastOf b (cond t b (lastMisplaced s g k (support g b)))
-      go (holds i) rest = (m, record { steps = 0; last = refl; rests = refl; position = i; first = λ j l h. absurd (omega arith) })
-      go (fails n) rest =
-          let f = rest n in
-          let foot = f .1 in
-          let between : (j : ℕ) → 1 ≤ j → j ≤ suc (foot .steps) → Misplaced s g (down g j b) = beneath (foot .steps) n (foot .first) in
-          (f .0, record { steps = suc (foot .steps); last = foot .last; rests = refl; position = foot .position; first = between })
+      walk : (k j a : ℕ) → j ≤ k → down g (suc j) a ≡ c → ((i : ℕ) → 1 ≤ i → i ≤ j → down g i a ≢ c) → restsOn g c k a ≡ down g j a
+      walk zero zero a l e h = refl
+      walk zero (suc j) a l e h = absurd (omega arith)
+      walk (suc k) zero a l e h = at (eqb-reflects (support g a) c)
         where
-          beneath : (k : ℕ) → Misplaced s g (support g b) → ((j : ℕ) → 1 ≤ j → j ≤ k → Misplaced s g (down g j (support g b)))
-              → (j : ℕ) → 1 ≤ j → j ≤ suc k → Misplaced s g (down g j b)
-          beneath k n below zero l h = absurd (omega arith)
-          beneath k n below (suc zero) l h = n
-          beneath k n below (suc (suc j)) l h = below (suc j) (omega arith) (omega arith)
+          at : {t : Bool} → Reflects (support g a ≡ c) t → cond t a (restsOn g c k (support g a)) ≡ a
+          at (holds q) = refl
+          at (fails q) = absurd (q e)
+      walk (suc k) (suc j) a l e h =
+          at (eqb-reflects (support g a) c) (walk k j (support g a) (omega arith) e (λ i low high. h (suc i) (omega arith) (omega arith)))
+        where
+          at : {t : Bool} → Reflects (support g a ≡ c) t → restsOn g c k (support g a) ≡ down g j (support g a)
+              → cond t a (restsOn g c k (support g a)) ≡ down g j (support g a)
+          at (holds q) r = absurd (h 1 (omega arith) (omega arith) q)
+          at (fails q) r = r
 
-  -- d of document 01
-  pub last-foot : (b : ℕ) → Misplaced s g b → LastOf b (lastMisplaced s g (length s) b)
-  last-foot b m =
-      let l : b ≤ length g = omega (arith, p .same, misplaced-block (p .same) m .high) in
-      descend (length s) b m (rw (p .same) at (ground-bound g (p .goal .entries) b l (p .goal .grounded b)))
+  -- d is misplaced, and beneath b in the goal with every block between them
+  abbrev LastOf : ℕ → ℕ → ℕ → Type 0
+  LastOf b c d = Foot s g b c d × Misplaced s g d
 
-  -- misplaced, in the goal at or beneath b, its goal support in position
-  pub last-misplaced : (b : ℕ) → Misplaced s g b →
-      Misplaced s g (lastMisplaced s g (length s) b) × InPosition s g (support g (lastMisplaced s g (length s) b)) ×
-      Reaches g b (lastMisplaced s g (length s) b)
-  last-misplaced b m = let f = last-foot b m in (f .0, f .1 .position, (f .1 .steps, f .1 .last))
+  -- c and d of document 01
+  pub last-misplaced : (b : ℕ) → Misplaced s g b → LastOf b (nearest s g b) (lastMisplaced s g b)
+  unfolding lastMisplaced
+  last-misplaced b m = (record { nearest = n; last = sym is }, subst (Misplaced s g) (sym is) last)
+    where
+      n : Nearest s g b (nearest s g b)
+      n = nearest-is p b m
+
+      last : Misplaced s g (down g (n .steps) b)
+      last = n .between (n .steps) (omega arith)
+
+      -- beneath the last block is the table
+      short : n .steps ≤ length s
+      short = by (decided (leb-reflects (n .steps) (length s)))
+        where
+          by : (n .steps ≤ length s) ⊎ (¬ (n .steps ≤ length s)) → n .steps ≤ length s
+          by (inl l) = l
+          by (inr h) =
+              let high : b ≤ length g = omega (arith, p .same, misplaced-block (p .same) m .high) in
+              let ground : down g (length g) b ≡ 0 = ground-bound g (p .goal .entries) b high (p .goal .grounded b) in
+              absurd (misplaced-nonzero last (down-more g (length g) (n .steps) b (omega (arith, h, p .same)) ground))
+
+      is : restsOn g (nearest s g b) (length s) b ≡ down g (n .steps) b
+      is = rests-on n (length s) short
 
   -- x is in the way of b: the top of its tower waits above it, and b is above it in the goal
   abbrev Blocks : ℕ → ℕ → Type 0
@@ -128,17 +149,24 @@ module _ {s g : State} (p : Problem s g) where
   -- the blocker of b is in its way: d where c is clear, else c
   blocker-blocks : NoneReady s g → (b : ℕ) → Waiting s g b → Blocks b (blocker s g b) × InTheWay s g b (blocker s g b)
   unfolding blocker
-  blocker-blocks still b w = go (clear-test s (support g d)) (last-foot b (w .0))
+  blocker-blocks still b w = go (clear-test s c) (last-misplaced b (w .0))
     where
-      d : ℕ
-      d = lastMisplaced s g (length s) b
+      c : ℕ
+      c = nearest s g b
 
-      go : {t : Bool} → Reflects (Clear s (support g d)) t → LastOf b d → Blocks b (cond t d (support g d)) × InTheWay s g b (cond t d (support g d))
-      go (holds c) f = (
-        misplaced-blocks b d (w .1) (f .0) (λ v. still d (ready-constructive p (f .0, v) c (f .1 .position))) (f .1 .steps, f .1 .last),
-        onto (support g d) (f .1) c,
-      )
-      go (fails n) f = (support-blocks b d (f .0) n (f .1 .steps, f .1 .last), under d (f .1) n)
+      d : ℕ
+      d = lastMisplaced s g b
+
+      go : {t : Bool} → Reflects (Clear s c) t → LastOf b c d → Blocks b (cond t d c) × InTheWay s g b (cond t d c)
+      go (holds k) f =
+          let is = sym (foot-rests (f .0)) in
+          let ready : Clear s d → Ready s g d =
+          λ v. ready-constructive p (f .1, v) (subst (Clear s) is k) (subst (InPosition s g) is (f .0 .nearest .right))
+          in
+          (misplaced-blocks b d (w .1) (f .1) (λ v. still d (ready v)) (foot-reaches (f .0)), onto c (f .0) k)
+      go (fails n) f =
+          let is = foot-rests (f .0) in
+          (subst (Blocks b) is (support-blocks b d (f .1) (λ k. n (subst (Clear s) is k)) (foot-reaches (f .0))), under d (f .0) n)
 
   -- the successor is misplaced and clear, above the blocker now, and b is above the blocker in the goal
   pub successor-waits : NoneReady s g → (b : ℕ) → Waiting s g b →
@@ -157,19 +185,11 @@ module _ {s g : State} (p : Problem s g) where
 
 -- ---- the words leave no choice
 
--- c and d are met after the same steps
-foot-steps : {s g : State} {b c d c′ d′ : ℕ} (f : Foot s g b c d) (h : Foot s g b c′ d′) → f .steps < h .steps → ⊥
-foot-steps {s} {g} {b} f h l =
-    let at : down g (suc (f .steps)) b ≡ _ = down-suc g (f .steps) b ∙ ap (support g) (f .last) ∙ f .rests in
-    h .first (suc (f .steps)) (omega arith) (omega (arith, l)) (subst (InPosition s g) (sym at) (f .position))
-
 foot-only : {s g : State} {b c d c′ d′ : ℕ} → Foot s g b c d → Foot s g b c′ d′ → (c ≡ c′) × (d ≡ d′)
 foot-only {s} {g} {b} f h =
-    let sooner : ¬ (f .steps < h .steps) = foot-steps f h in
-    let later : ¬ (h .steps < f .steps) = foot-steps h f in
-    let same : f .steps ≡ h .steps = omega (arith, sooner, later) in
-    let ds = sym (f .last) ∙ ap (λ k. down g k b) same ∙ h .last in
-    (sym (f .rests) ∙ ap (support g) ds ∙ h .rests, ds)
+    let k = f .nearest in
+    let l = h .nearest in
+    (nearest-only k l, sym (f .last) ∙ ap (λ i. down g i b) (same-steps k l) ∙ h .last)
 
 pub way-only : {s g : State} {b x y : ℕ} → InTheWay s g b x → InTheWay s g b y → x ≡ y
 way-only (onto c f w) (onto c′ f′ w′) = foot-only f f′ .1

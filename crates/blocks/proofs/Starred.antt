@@ -10,9 +10,10 @@ use Rattle.lists.proofs.ReflectLaws.{same?}
 use Rattle.blocks.specs.State.{State}
 use Rattle.blocks.specs.Position.{Problem}
 use Rattle.blocks.specs.Move.{_⟶_, Plan, Solves}
-use Rattle.blocks.specs.Tests.{load, clearᵇ, groundedᵇ, agreesᵇ, inPositionᵇ, misplacedᵇ, waitingᵇ, readyᵇ, perchedᵇ, twiceᵇ, misplacedCount, measure}
-use Rattle.blocks.specs.Loop.{lastMisplaced, blocker, top, successor, walk, loop, lowestOf, onward, blockedPairs}
-use Rattle.blocks.specs.Method.{Method, Gn1, plan, outcome, planOutcome, built, deadlockLoop, deadlockPairs}
+use Rattle.blocks.specs.Tests.{load, clearᵇ, groundedᵇ, agreesᵇ, firstRight, position, inPositionᵇ, nearest}
+use Rattle.blocks.specs.Tests.{misplacedᵇ, waitingᵇ, readyᵇ, perchedᵇ, twiceᵇ, misplacedCount, measure}
+use Rattle.blocks.specs.Loop.{restsOn, lastMisplaced, blocker, top, successor, walk, loop, lowestOf, onward, blockedRows}
+use Rattle.blocks.specs.Method.{Method, Gn1, plan, outcome, planOutcome, built, deadlockLoop, deadlockRows}
 use Rattle.blocks.specs.Method.{iterate, fuel, lowestPerched, lowestReady, lowestOnLoop, clearing, building, solving}
 use Rattle.blocks.specs.Question.{asksMethod, asksSize, asksSame, outsideᵇ, firstOutside, asksOutside, sharedᵇ, firstShared, asksShared, floatingᵇ, firstFloating, asksFloating}
 use Rattle.blocks.specs.Question.{asksRoom, asksEven, asksPlan, stateQuestions, problemQuestions, planQuestions, deadlockQuestions, replayQuestions}
@@ -49,9 +50,10 @@ abbrev pub _&_ : {A B : Type 0} → A → B → A × B
 a & b = (a, b)
 
 pub sheets-hold : AllHold starred × AllHold ties × AllHold counts × AllHold lifts × AllHold verdicts × AllHold refusals
-unfolding lowest count load clearᵇ groundedᵇ agreesᵇ inPositionᵇ misplacedᵇ waitingᵇ readyᵇ perchedᵇ twiceᵇ misplacedCount measure lastMisplaced blocker top
-    successor walk loop lowestOf onward blockedPairs iterate fuel lowestPerched lowestReady lowestOnLoop clearing building solving outcome built
-    deadlockLoop deadlockPairs asksMethod asksSize asksSame outsideᵇ firstOutside asksOutside sharedᵇ firstShared asksShared floatingᵇ firstFloating
+unfolding lowest count load clearᵇ groundedᵇ agreesᵇ firstRight position inPositionᵇ nearest misplacedᵇ waitingᵇ readyᵇ perchedᵇ twiceᵇ misplacedCount
+    measure restsOn lastMisplaced blocker top successor walk loop lowestOf onward blockedRows iterate fuel lowestPerched lowestReady lowestOnLoop
+    clearing building solving outcome built
+    deadlockLoop deadlockRows asksMethod asksSize asksSame outsideᵇ firstOutside asksOutside sharedᵇ firstShared asksShared floatingᵇ firstFloating
     asksFloating asksRoom asksPlan stateQuestions problemQuestions checkAnswer planOutcome planQuestions planAnswer planSpace deadlockQuestions
     deadlockAnswer deadlockSpace asksEven replayQuestions moveQuestions firstDifference replayFrom replayAnswer
 sheets-hold = (
@@ -62,12 +64,13 @@ sheets-hold = (
       (refl, refl, refl) & (refl, refl, refl) & (refl, refl, refl) & (refl, refl, refl) & (refl, refl, refl) & (refl, refl, refl) &
       (refl, refl, refl) & (refl, refl, refl) & (refl, refl, refl) & (refl, refl, refl) & (refl, refl, refl) & (refl, refl, refl) &
       (refl, refl, refl) & (refl, refl, refl) & (refl, refl, refl) & (refl, refl, refl) & (refl, refl, refl) & (refl, refl, refl) &
-      (refl, refl, refl) & (refl, refl, refl) & (refl, refl, refl) & tt,
+      (refl, refl, refl) & (refl, refl, refl) & (refl, refl, refl) & (refl, refl, refl) & (refl, refl, refl) & tt,
   (refl, refl) & (refl, refl) & (refl, refl) & (refl, refl) & (refl, refl) & (refl, refl) & two & six & tt,
   refl & (refl, refl) & (refl, refl) & (refl, refl) & refl & (refl, refl) & refl & refl & (refl, refl) & (refl, refl) & (refl, refl) & refl &
       (refl, refl) & (refl, refl) & (refl, refl) & tt,
   refl & refl & refl & refl & refl & refl & refl & refl & refl & refl & refl & refl & tt,
-  refl & refl & refl & refl & refl & refl & refl & refl & refl & refl & refl & refl & (refl, refl) & (refl, refl) & (refl, refl) & (refl, refl) & (refl, refl) & (refl, refl) & refl & refl & tt,
+  refl & refl & refl & refl & refl & refl & refl & refl & refl & refl & refl & refl & (refl, refl) & (refl, refl) & (refl, refl) & (refl, refl) &
+      (refl, refl) & (refl, refl) & (refl, refl) & refl & refl & tt,
 )
   where
     two : Fewest (2 ∷ 0 ∷ []) (0 ∷ 1 ∷ []) 2

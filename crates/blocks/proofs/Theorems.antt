@@ -1,12 +1,12 @@
 -- The theorems of specs/Demands, proved: each is a law of one of the files beside this one. Assumes nothing.
-use mathlib.Core.Path.{_≡_, sym, ap, subst}
+use mathlib.Core.Path.{_≡_, ap}
 use mathlib.Core.Logic.{_↔_}
 use mathlib.Core.Bool.{Bool, true}
-use Prim.Native.Nat.{ℕ, _*_, _≤_}
+use Prim.Native.Nat.{_*_, _≤_}
 use native.Mathlib.Omega.{arith}
 use lib.ListN.{length}
-use Rattle.blocks.specs.State.{State, support, down}
-use Rattle.blocks.specs.Position.{Problem, InPosition, Misplaced}
+use Rattle.blocks.specs.State.{State}
+use Rattle.blocks.specs.Position.{Problem}
 use Rattle.blocks.specs.Move.{Plan, Solves}
 use Rattle.blocks.specs.Tests.{misplacedCount}
 use Rattle.blocks.specs.Method.{Method, Gn1, plan, outcome}
@@ -15,6 +15,7 @@ use Rattle.lists.proofs.ReflectLaws.{Reflects, from-true, to-true}
 use Rattle.blocks.proofs.GroundLaws as ground
 use Rattle.blocks.proofs.ClearLaws as clear
 use Rattle.blocks.proofs.PositionLaws as positions
+use Rattle.blocks.proofs.NearestLaws as names
 use Rattle.blocks.proofs.BoundLaws as bounds
 use Rattle.blocks.proofs.MovedLaws as moved
 use Rattle.blocks.proofs.MeasureLaws.{measure-le, misplaced-counts, misplaced-le}
@@ -88,6 +89,8 @@ pub theorems : Theorems
 theorems =
     record {
       position-test = λ s g p b. exactly (positions.position-test s g p b);
+      position-told = names.position-told;
+      names-none = names.names-none;
       clear-test = λ s b. exactly (clear.clear-test s b);
       ready-test = λ s g p b. exactly (positions.ready-test s g p b);
       waiting-test = λ s g p b. exactly (positions.waiting-test s g p b);
@@ -126,12 +129,12 @@ theorems =
       replay-says = plain.replay-says;
       replay-zero = plain.replay-zero;
       no-verdict = replays.no-verdict;
-      last-misplaced =
-          λ s g p b m d e. subst (λ x. Misplaced s g x × InPosition s g (support g x) × ((k : ℕ) × (down g k b ≡ x))) (sym e) (stalls.last-misplaced p b m);
+      last-misplaced = λ s g p. stalls.last-misplaced p;
       successor-waits = λ s g p. stalls.successor-waits p;
       loop-closed = λ s g p h b m. loops.loop-closed p h m;
       deadlock-none = λ s g p. deadlocks.deadlock-none p;
       deadlock-shown = λ s g p. deadlocks.deadlock-shown p;
+      third-only = words.third-only;
       deadlock-told = words.deadlock-told;
       deadlock-written = answers.deadlock-written;
       deadlock-fits = deadlocks.deadlock-fits;

@@ -11,7 +11,8 @@ use Rattle.blocks.specs.State.{State}
 use Rattle.blocks.specs.Position.{Problem}
 use Rattle.blocks.specs.Move.{Plan}
 use Rattle.blocks.specs.Loop.{memberᵇ}
-use Rattle.blocks.specs.Method.{Method, plan, outcomeBy, methodOf, planOf, planOutcome, deadlockLoop, deadlockPairs}
+use Rattle.blocks.specs.Loop.{shownWidth}
+use Rattle.blocks.specs.Method.{Method, plan, outcomeBy, methodOf, planOf, planOutcome, deadlockLoop, deadlockRows}
 use Rattle.blocks.specs.Question.{Question, Asked, allYes, no′, firstNo, AllYes, FirstNo, numbers, IsMethod, asksMethod, asksRoom, asksEven, asksPlan}
 use Rattle.blocks.specs.Question.{problemQuestions, planQuestions, deadlockQuestions, replayQuestions}
 use Rattle.blocks.specs.Answer.{flat, moves, checked, checkAnswer, planned, written, planAnswer, planSpace}
@@ -72,7 +73,7 @@ plan-none m s g space = ap (λ qs. asksMethod m ∷ (qs ++ (asksRoom (4 * length
 
 pub deadlock-none : (s g : State) (space : List ℕ) → deadlockQuestionsWith none s g space ≡ deadlockQuestions s g space
 unfolding deadlockQuestionsWith deadlockQuestions
-deadlock-none s g space = ap (λ qs. qs ++ (asksRoom (2 * length s) space ∷ [])) (problem-none s g)
+deadlock-none s g space = ap (λ qs. qs ++ (asksRoom (shownWidth * length s) space ∷ [])) (problem-none s g)
 
 pub replay-none : (s g : State) (lifts : List ℕ) → replayQuestionsWith none s g lifts ≡ replayQuestions s g lifts
 unfolding replayQuestionsWith replayQuestions
@@ -182,11 +183,11 @@ module _ (ls : Lengths) (s g : State) (space : List ℕ) where
   unfolding deadlockAnswerWith deadlockSpaceWith
   deadlock-refusal k p r = let e : firstNo (deadlockQuestionsWith ls s g space) ≡ no′ k p = deadlock-refuses k p .1 r in (rw e, rw e)
 
-  pub deadlock-accepts : (firstNo (deadlockQuestionsWith ls s g space) ≡ allYes) ↔ (AcceptedWith ls s g × (2 * length s ≤ length space))
+  pub deadlock-accepts : (firstNo (deadlockQuestionsWith ls s g space) ≡ allYes) ↔ (AcceptedWith ls s g × (shownWidth * length s ≤ length space))
   unfolding deadlockQuestionsWith asksRoom
   deadlock-accepts =
       Iff·trans (first-no (deadlockQuestionsWith ls s g space) deadlock-decides allYes)
-      (Iff·trans (behind-yes ls s g (asksRoom (2 * length s) space ∷ [])) (Iff·and Iff·rfl and-true))
+      (Iff·trans (behind-yes ls s g (asksRoom (shownWidth * length s) space ∷ [])) (Iff·and Iff·rfl and-true))
 
 -- ---- replay
 
@@ -247,7 +248,7 @@ as-before =
       plan = λ m s g space. ap (λ qs. planned (firstNo qs) s g (planOf (planOutcome m s g))) (plan-none m s g space);
       plan-space = λ m s g space. ap (λ qs. written (firstNo qs) (flat (planOf (planOutcome m s g))) space) (plan-none m s g space);
       deadlock = λ s g space. ap (λ qs. tested (firstNo qs) (deadlockLoop s g)) (deadlock-none s g space);
-      deadlock-space = λ s g space. ap (λ qs. written (firstNo qs) (deadlockPairs s g) space) (deadlock-none s g space);
+      deadlock-space = λ s g space. ap (λ qs. written (firstNo qs) (deadlockRows s g) space) (deadlock-none s g space);
       replay = λ s g lifts. ap₂ (λ qs r. replayed (firstNo qs) r) (replay-none s g lifts) (from-plain 1 s g (moves lifts));
     }
 
@@ -275,8 +276,8 @@ module _ (ls : Lengths) (s g : State) (a : AcceptedWith ls s g) where
   same-deadlock : (space : List ℕ) → (deadlockAnswerWith ls s g space ≡ deadlockAnswer s g space) × (deadlockSpaceWith ls s g space ≡ deadlockSpace s g space)
   unfolding deadlockAnswerWith deadlockAnswer deadlockSpaceWith deadlockSpace deadlockQuestionsWith deadlockQuestions
   same-deadlock space =
-      let e = same-rest (asksRoom (2 * length s) space ∷ []) in
-      (ap (λ v. tested v (deadlockLoop s g)) e, ap (λ v. written v (deadlockPairs s g) space) e)
+      let e = same-rest (asksRoom (shownWidth * length s) space ∷ []) in
+      (ap (λ v. tested v (deadlockLoop s g)) e, ap (λ v. written v (deadlockRows s g) space) e)
 
 pub same-lists : SameLists
 same-lists =

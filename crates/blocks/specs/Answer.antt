@@ -9,7 +9,7 @@ use Rattle.lists.specs.Search.{lowest}
 use Rattle.blocks.specs.State.{State, support, put}
 use Rattle.blocks.specs.Move.{_⟶_, Plan}
 use Rattle.blocks.specs.Tests.{misplacedCount}
-use Rattle.blocks.specs.Method.{planOf, planOutcome, deadlockPairs, deadlockLoop}
+use Rattle.blocks.specs.Method.{planOf, planOutcome, deadlockRows, deadlockLoop}
 use Rattle.blocks.specs.Question.{Asked, allYes, no′, firstNo, problemQuestions, planQuestions, deadlockQuestions, replayQuestions}
 use Rattle.blocks.specs.Replay.{moveQuestions}
 
@@ -82,7 +82,7 @@ unfoldable pub deadlockAnswer : State → State → List ℕ → DeadlockAnswer
 deadlockAnswer s g space = tested (firstNo (deadlockQuestions s g space)) (deadlockLoop s g)
 
 unfoldable pub deadlockSpace : State → State → List ℕ → List ℕ
-deadlockSpace s g space = written (firstNo (deadlockQuestions s g space)) (deadlockPairs s g) space
+deadlockSpace s g space = written (firstNo (deadlockQuestions s g space)) (deadlockRows s g) space
 
 -- ---- replay: questions 2 to 9 and 11
 

@@ -7,16 +7,16 @@ use mathlib.Core.Logic.{_≢_, _↔_}
 use mathlib.Core.Bool.{true}
 use mathlib.Core.List.{List, [], _∷_, _++_}
 use lib.ListN.{length, getD, take, drop}
-use Rattle.blocks.specs.State.{State, support, down, Above, Clear, Grounded}
+use Rattle.blocks.specs.State.{State, support, Above, Clear, Grounded}
 use Rattle.lists.specs.Search.{Counts}
-use Rattle.blocks.specs.Position.{Proper, Problem, Accepted, InPosition, Misplaced}
-use Rattle.blocks.specs.Move.{Plan, CarefulPlan, Moved, Solves}
-use Rattle.blocks.specs.Tests.{clearᵇ, groundedᵇ, inPositionᵇ, waitingᵇ, readyᵇ, perchedᵇ, misplacedCount, measure}
+use Rattle.blocks.specs.Position.{Proper, Problem, Accepted, InPosition, Misplaced, Nearest, Position, Positioned}
+use Rattle.blocks.specs.Move.{Plan, CarefulPlan, Moved, Solves, after}
+use Rattle.blocks.specs.Tests.{clearᵇ, groundedᵇ, position, inPositionᵇ, nearest, waitingᵇ, readyᵇ, perchedᵇ, misplacedCount, measure}
 use Rattle.blocks.specs.Deadlock.{next, Deadlock, Deadlocked}
-use Rattle.blocks.specs.Loop.{lastMisplaced, blocker, successor, loop}
+use Rattle.blocks.specs.Loop.{lastMisplaced, blocker, successor, loop, shownWidth}
 use Rattle.blocks.specs.Stall.{Waiting, Perched, Twice, Ready, NoneReady, IsLoop}
-use Rattle.blocks.specs.Steps.{Stalled, LoopOf, By, ByTest}
-use Rattle.blocks.specs.Method.{Method, Us, plan, outcome, numberOf, deadlockLoop, deadlockPairs}
+use Rattle.blocks.specs.Steps.{Stalled, Foot, LoopOf, ByBuilding, By, ByTest}
+use Rattle.blocks.specs.Method.{Method, Us, plan, outcome, numberOf, deadlockLoop, deadlockRows}
 use Rattle.blocks.specs.Question.{allYes, no′, firstNo, numbers, IsMethod, problemQuestions, planQuestions, deadlockQuestions, replayQuestions}
 use Rattle.blocks.specs.Question.{Refused, PlanRefused, DeadlockRefused, ReplayRefused}
 use Rattle.blocks.specs.Replay.{moveQuestions, Replayed}
@@ -80,18 +80,27 @@ pub record BesideUs (s g : State) (us : PlanAnswer) (us-space : List ℕ) (any :
   pub no-more : length (writtenPlan any any-space) ≤ length (writtenPlan us us-space)
   pub no-more-count : any .count ≤ us .count
 
--- What the deadlock test shows, in document 01's letters: the blocks of the loop are b1 to bp, and beside each stands the next d.
-pub record Shown (s g : State) (blocks pairs : List ℕ) : Type 0 where
+-- What the deadlock test shows, in document 01's letters: the blocks of the loop are b1 to bp, and beside each stands the next d, and c.
+pub record Shown (s g : State) (blocks rows : List ℕ) : Type 0 where
   pub d : ℕ → ℕ
   pub deadlock : Deadlock s g (length blocks) (λ i. getD blocks i 0) d
-  pub slab : (i : ℕ) → i < length blocks → getD pairs (2 * i) 0 ≡ getD blocks i 0
-  pub beside : (i : ℕ) → i < length blocks → getD pairs (2 * i + 1) 0 ≡ d (next (length blocks) i)
+  pub slab : (i : ℕ) → i < length blocks → getD rows (shownWidth * i) 0 ≡ getD blocks i 0
+  pub beside : (i : ℕ) → i < length blocks → getD rows (shownWidth * i + 1) 0 ≡ d (next (length blocks) i)
+  -- document 02, Job 6: "as the yard stands when it stalls": after these moves
+  pub moves : Plan
+  pub stalls : ByBuilding s g moves
+  -- the third number is in position then, or the table, beneath the block in the goal, and the block and every one between are misplaced then
+  pub third : (i : ℕ) → i < length blocks → Nearest (after s moves) g (getD blocks i 0) (getD rows (shownWidth * i + 2) 0)
   -- document 01: "written from its lowest number onward"
   pub lowest : (i : ℕ) → i < length blocks → getD blocks 0 0 ≤ getD blocks i 0
 
 pub record Theorems : Type 0 where
   -- ---- the tests agree with the notions
   pub position-test : (s g : State) → Proper s → (b : ℕ) → (inPositionᵇ s g b ≡ true) ↔ InPosition s g b
+  -- document 02, Job 6: "The position test shall also name, for a misplaced slab, the nearest slab beneath it in the goal pile that is in position"
+  pub position-told : (s g : State) → Problem s g → (b : ℕ) (r : Position) → (position s g b ≡ r) ↔ Positioned s g b r
+  -- for a block in position it names none: in numbers 0
+  pub names-none : (s g : State) → Problem s g → (b : ℕ) → InPosition s g b → nearest s g b ≡ 0
   pub clear-test : (s : State) (b : ℕ) → (clearᵇ s b ≡ true) ↔ Clear s b
   pub ready-test : (s g : State) → Problem s g → (b : ℕ) → (readyᵇ s g b ≡ true) ↔ Ready s g b
   pub waiting-test : (s g : State) → Proper s → (b : ℕ) → (waitingᵇ s g b ≡ true) ↔ Waiting s g b
@@ -111,7 +120,8 @@ pub record Theorems : Type 0 where
   -- with a method and enough space planning is answered, with enough space the deadlock test, and with an even list replay
   pub plan-accepts : (m : ℕ) (s g : State) (space : List ℕ)
       → (firstNo (planQuestions m s g space) ≡ allYes) ↔ (IsMethod m × Accepted s g × (4 * length s ≤ length space))
-  pub deadlock-accepts : (s g : State) (space : List ℕ) → (firstNo (deadlockQuestions s g space) ≡ allYes) ↔ (Accepted s g × (2 * length s ≤ length space))
+  pub deadlock-accepts : (s g : State) (space : List ℕ)
+      → (firstNo (deadlockQuestions s g space) ≡ allYes) ↔ (Accepted s g × (shownWidth * length s ≤ length space))
   pub replay-accepts : (s g : State) (lifts : List ℕ) → (firstNo (replayQuestions s g lifts) ≡ allYes) ↔ (Accepted s g × (length lifts % 2 ≡ 0))
   -- a check answers 0 and 0 exactly on accepted problems, and otherwise the first "no"
   pub check-accepts : (s g : State) → (checkAnswer s g ≡ record { number = 0; place = 0 }) ↔ Accepted s g
@@ -130,9 +140,9 @@ pub record Theorems : Type 0 where
   pub plan-answers : (m : Method) (s g : State) (space : List ℕ) → Accepted s g → 4 * length s ≤ length space → (p : Plan) → outcome m s g ≡ plan p
       → (planAnswer (numberOf m) s g space ≡ record { number = 0; place = 0; count = length p; misplaced = misplacedCount s g })
       × (planSpace (numberOf m) s g space ≡ flat p ++ drop (2 * length p) space)
-  pub deadlock-answers : (s g : State) (space : List ℕ) → Accepted s g → 2 * length s ≤ length space
+  pub deadlock-answers : (s g : State) (space : List ℕ) → Accepted s g → shownWidth * length s ≤ length space
       → (deadlockAnswer s g space ≡ record { number = 0; place = 0; count = length (deadlockLoop s g) })
-      × (deadlockSpace s g space ≡ deadlockPairs s g ++ drop (2 * length (deadlockLoop s g)) space)
+      × (deadlockSpace s g space ≡ deadlockRows s g ++ drop (shownWidth * length (deadlockLoop s g)) space)
   pub replay-answers : (s g : State) (lifts : List ℕ) → Accepted s g → length lifts % 2 ≡ 0 → (v k : ℕ)
       → (replayAnswer s g lifts ≡ record { number = 0; verdict = v; place = k }) ↔ Replayed s g (moves lifts) v k
   -- question 13 is never answered no
@@ -159,22 +169,26 @@ pub record Theorems : Type 0 where
   pub replay-zero : (s g : State) (lifts : List ℕ)
       → ((replayAnswer s g lifts) .verdict ≡ 0) ↔ (Accepted s g × (length lifts % 2 ≡ 0) × Solves s g (moves lifts))
   pub no-verdict : (s g : State) (p : Plan) (k : ℕ) → ¬ Replayed s g p noVerdict k
-  -- document 01's d: misplaced, at or beneath b in the goal, on a c that is in position
-  pub last-misplaced : (s g : State) → Problem s g → (b : ℕ) → Misplaced s g b → (d : ℕ) → d ≡ lastMisplaced s g (length s) b
-      → Misplaced s g d × InPosition s g (support g d) × ((k : ℕ) × (down g k b ≡ d))
+  -- document 01's c and d of a misplaced block; d is misplaced
+  pub last-misplaced : (s g : State) → Problem s g → (b : ℕ) → Misplaced s g b
+      → Foot s g b (nearest s g b) (lastMisplaced s g b) × Misplaced s g (lastMisplaced s g b)
   -- the successor of b is a misplaced clear block above what is in b's way, and b is above that in the goal; the loop is closed under successors
   pub successor-waits : (s g : State) → Problem s g → NoneReady s g → (b : ℕ) → Waiting s g b
       → Waiting s g (successor s g b) × Above s (successor s g b) (blocker s g b) × Above g b (blocker s g b)
   pub loop-closed : (s g : State) → Problem s g → NoneReady s g → (b : ℕ) → Misplaced s g b → IsLoop s g (loop s g)
   -- the test says none exactly when nothing is deadlocked at the start; what it shows otherwise is deadlocked at the start
   pub deadlock-none : (s g : State) → Problem s g → (length (deadlockLoop s g) ≡ 0) ↔ NoDeadlock s g
-  pub deadlock-shown : (s g : State) → Problem s g → length (deadlockLoop s g) ≢ 0 → Shown s g (deadlockLoop s g) (deadlockPairs s g)
+  pub deadlock-shown : (s g : State) → Problem s g → length (deadlockLoop s g) ≢ 0 → Shown s g (deadlockLoop s g) (deadlockRows s g)
+  -- what is shown leaves one third number
+  pub third-only : (s g : State) → Problem s g → (blocks rows rows′ : List ℕ) → Shown s g blocks rows → Shown s g blocks rows′
+      → (i : ℕ) → i < length blocks → getD rows (shownWidth * i + 2) 0 ≡ getD rows′ (shownWidth * i + 2) 0
   -- what it writes is what its words give, and they give no other answer
-  pub deadlock-told : (s g : State) → Problem s g → (l pairs : List ℕ) → ((deadlockLoop s g ≡ l) × (deadlockPairs s g ≡ pairs)) ↔ ByTest s g l pairs
+  pub deadlock-told : (s g : State) → Problem s g → (l rows : List ℕ) → ((deadlockLoop s g ≡ l) × (deadlockRows s g ≡ rows)) ↔ ByTest s g l rows
   -- and so is what stands in the lent space
-  pub deadlock-written : (s g : State) (space : List ℕ) → Accepted s g → 2 * length s ≤ length space
-      → (l : List ℕ) × (length l ≡ (deadlockAnswer s g space) .count) × ByTest s g l (take (2 * (deadlockAnswer s g space) .count) (deadlockSpace s g space))
-  pub deadlock-fits : (s g : State) → Problem s g → length (deadlockPairs s g) ≤ 2 * length s
+  pub deadlock-written : (s g : State) (space : List ℕ) → Accepted s g → shownWidth * length s ≤ length space
+      → (l : List ℕ) × (length l ≡ (deadlockAnswer s g space) .count)
+      × ByTest s g l (take (shownWidth * (deadlockAnswer s g space) .count) (deadlockSpace s g space))
+  pub deadlock-fits : (s g : State) → Problem s g → length (deadlockRows s g) ≤ shownWidth * length s
   -- ---- demand 3: every method gives a plan, and keeps the promise
   pub demand : (m : Method) (s g : State) → Problem s g → (p : Plan) × (outcome m s g ≡ plan p) × Promise m s g p × Economy m s g p
   -- the list written into the lent space is that plan: it is legal and arrives

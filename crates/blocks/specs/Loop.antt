@@ -7,20 +7,23 @@ use lib.Dec.{eqb}
 use lib.ListN.{length}
 use Rattle.blocks.specs.State.{State, support}
 use Rattle.lists.specs.Search.{lowest}
-use Rattle.blocks.specs.Tests.{load, clearᵇ, inPositionᵇ, waitingᵇ}
+use Rattle.blocks.specs.Tests.{load, clearᵇ, nearest, waitingᵇ}
 
--- document 01's d: "Walk down b's goal pile, b left out, to the first slab in position, or the ground; call it c.
--- Let d be the slab that rests on c in that goal pile, possibly b." The table passes the test for in position.
-unfoldable pub lastMisplaced : State → State → ℕ → ℕ → ℕ
-lastMisplaced s g zero b = b
-lastMisplaced s g (suc k) b = cond (inPositionᵇ s g (support g b)) b (lastMisplaced s g k (support g b))
+-- The block that rests on c in b's goal tower, possibly b.
+unfoldable pub restsOn : State → ℕ → ℕ → ℕ → ℕ
+restsOn g c zero b = b
+restsOn g c (suc k) b = cond (eqb (support g b) c) b (restsOn g c k (support g b))
+
+-- document 01's d: "Let d be the slab that rests on c in that goal pile, possibly b."
+unfoldable pub lastMisplaced : State → State → ℕ → ℕ
+lastMisplaced s g b = restsOn g (nearest s g b) (length s) b
 
 -- "the slab through which its successor is in its way (c when c is not clear, else d)".
-abbrev pub inTheWay : State → State → ℕ → ℕ
-inTheWay s g d = cond (clearᵇ s (support g d)) d (support g d)
+abbrev pub inTheWay : State → ℕ → ℕ → ℕ
+inTheWay s c d = cond (clearᵇ s c) d c
 
 unfoldable pub blocker : State → State → ℕ → ℕ
-blocker s g b = inTheWay s g (lastMisplaced s g (length s) b)
+blocker s g b = inTheWay s (nearest s g b) (lastMisplaced s g b)
 
 -- The clear block at the top of b's tower, from b upward.
 unfoldable pub top : State → ℕ → ℕ → ℕ
@@ -61,7 +64,11 @@ lowestOf s l = lowest (λ b. memberᵇ b l) (length s)
 unfoldable pub onward : State → List ℕ → List ℕ
 onward s l = from (lowestOf s l) l ++ before (lowestOf s l) l
 
--- "written [..] as pairs: the slab, and the slab through which its successor is in its way".
-unfoldable pub blockedPairs : State → State → List ℕ → List ℕ
-blockedPairs s g [] = []
-blockedPairs s g (b ∷ l) = b ∷ blocker s g b ∷ blockedPairs s g l
+-- document 01: "the slab, and the slab through which its successor is in its way"; document 02, Job 6: c "as a third number per slab".
+unfoldable pub blockedRows : State → State → List ℕ → List ℕ
+blockedRows s g [] = []
+blockedRows s g (b ∷ l) = b ∷ blocker s g b ∷ nearest s g b ∷ blockedRows s g l
+
+-- How many numbers a row has, and so how many are lent for each block: document 02, Job 6: "its space is now 3 × n".
+abbrev pub shownWidth : ℕ
+shownWidth = 3

@@ -9,7 +9,7 @@ use Rattle.blocks.specs.State.{State, support, put}
 use Rattle.blocks.specs.Move.{_⟶_, Plan, after}
 use Rattle.lists.specs.Search.{lowest}
 use Rattle.blocks.specs.Tests.{readyᵇ, perchedᵇ, misplacedCount}
-use Rattle.blocks.specs.Loop.{loop, lowestOf, onward, blockedPairs}
+use Rattle.blocks.specs.Loop.{loop, lowestOf, onward, blockedRows}
 
 -- What a method does next: nothing more, a move, or, at question 13, nothing for want of a block to put down.
 pub data Step : Type 0 where
@@ -126,5 +126,6 @@ built s g = endOf s (iterate (building g) (fuel s) s)
 unfoldable pub deadlockLoop : State → State → List ℕ
 deadlockLoop s g = let t = built s g in cond (eqb (misplacedCount t g) 0) [] (onward t (loop t g))
 
-unfoldable pub deadlockPairs : State → State → List ℕ
-deadlockPairs s g = blockedPairs (built s g) g (deadlockLoop s g)
+-- document 02, Job 6: c "as the yard stands when it stalls".
+unfoldable pub deadlockRows : State → State → List ℕ
+deadlockRows s g = blockedRows (built s g) g (deadlockLoop s g)

@@ -1,6 +1,6 @@
 -- Problems, and the blocks that stand right (document 01, "The yard"; document 001, sections 2.1 and 3.1).
 -- Document 01 says sheet for problem, now for the initial state. Assumes nothing.
-use Prim.Native.Nat.{ℕ, _≤_}
+use Prim.Native.Nat.{ℕ, suc, _≤_}
 use mathlib.Core.Path.{_≡_}
 use mathlib.Core.Logic.{_≢_}
 use lib.ListN.{length}
@@ -34,3 +34,26 @@ pub record InPosition (s g : State) (b : ℕ) : Type 0 where
 -- document 01: "Otherwise it is misplaced."
 abbrev pub Misplaced : State → State → ℕ → Type 0
 Misplaced s g b = ¬ InPosition s g b
+
+-- document 02, Job 6, "for a misplaced slab, the nearest slab beneath it in the goal pile that is in position, or 0 for the ground". Document 01's c.
+-- Block b and every block between it and c are misplaced.
+pub record Nearest (s g : State) (b c : ℕ) : Type 0 where
+  pub steps : ℕ
+  pub beneath : down g (suc steps) b ≡ c
+  pub right : InPosition s g c
+  pub between : (i : ℕ) → i ≤ steps → Misplaced s g (down g i b)
+
+-- What the position test answers of a block: in position, or misplaced above c.
+pub data Position : Type 0 where
+  inPosition : Position
+  misplacedAbove : ℕ → Position
+
+-- When that answer is true of block b.
+pub data Positioned (s g : State) (b : ℕ) : Position → Type 0 where
+  right : InPosition s g b → Positioned s g b inPosition
+  wrong : {c : ℕ} → Nearest s g b c → Positioned s g b (misplacedAbove c)
+
+-- The block that the answer names. In position it names none: in numbers 0, which is not looked at.
+abbrev pub named : Position → ℕ
+named inPosition = 0
+named (misplacedAbove c) = c

@@ -12,6 +12,7 @@ use Rattle.lists.specs.Search.{lowest, Lowest}
 use Rattle.blocks.specs.State.{State, most, support, Grounded}
 use Rattle.blocks.specs.Move.{Plan}
 use Rattle.blocks.specs.Tests.{groundedᵇ}
+use Rattle.blocks.specs.Loop.{shownWidth}
 use Rattle.blocks.specs.Method.{Outcome, plan, nothingToPutDown, Method, methodOf, planOutcome}
 
 -- ---- rows
@@ -158,12 +159,12 @@ stateQuestions k₁ k₂ k₃ s = asksOutside k₁ s ∷ asksShared k₂ s ∷ a
 unfoldable pub problemQuestions : State → State → List Question
 problemQuestions s g = asksSize (length s) ∷ asksSame s g ∷ (stateQuestions 4 5 6 s ++ stateQuestions 7 8 9 g)
 
--- "Planning needs 4 × n numbers of lent space, the deadlock test 2 × n."
+-- "Planning needs 4 × n numbers of lent space, the deadlock test 2 × n"; of the latter document 02, Job 6: "its space is now 3 × n".
 unfoldable pub planQuestions : ℕ → State → State → List ℕ → List Question
 planQuestions m s g space = asksMethod m ∷ (problemQuestions s g ++ (asksRoom (4 * length s) space ∷ asksPlan (planOutcome m s g) ∷ []))
 
 unfoldable pub deadlockQuestions : State → State → List ℕ → List Question
-deadlockQuestions s g space = problemQuestions s g ++ (asksRoom (2 * length s) space ∷ [])
+deadlockQuestions s g space = problemQuestions s g ++ (asksRoom (shownWidth * length s) space ∷ [])
 
 unfoldable pub replayQuestions : State → State → List ℕ → List Question
 replayQuestions s g lifts = problemQuestions s g ++ (asksEven lifts ∷ [])

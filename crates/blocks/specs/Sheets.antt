@@ -7,6 +7,7 @@ use lib.ListN.{length, replicate}
 use Rattle.blocks.specs.State.{State}
 use Rattle.blocks.specs.Position.{Problem, Accepted}
 use Rattle.blocks.specs.Tests.{measure}
+use Rattle.blocks.specs.Loop.{shownWidth}
 use Rattle.blocks.specs.Method.{Method, numberOf}
 use Rattle.blocks.specs.Answer.{checkAnswer, planAnswer, planSpace, deadlockAnswer, deadlockSpace, replayAnswer}
 use Rattle.blocks.specs.Demands.{Fewest}
@@ -15,7 +16,7 @@ use Rattle.blocks.specs.Demands.{Fewest}
 pub data Claim : Type 0 where
   gives : State → State → ℕ → List ℕ → Claim  -- the method writes this list
   takes : State → State → ℕ → ℕ → Claim  -- the method writes so many lifts
-  shows : State → State → List ℕ → Claim  -- the deadlock test writes these pairs; none, where there is no deadlock
+  shows : State → State → List ℕ → Claim  -- the deadlock test writes these rows; none, where there is no deadlock
   misplaces : State → State → ℕ → Claim  -- planning answers so many misplaced slabs
   needs : State → State → ℕ → Claim  -- the fewest lifts that could do
   allDown : State → State → ℕ → Claim  -- the number that document 02, Job 4, names for method 1
@@ -41,9 +42,9 @@ Holds (gives s g m l) =
     × ((planAnswer m s g (lent (4 * length s))) .number ≡ 0)
 Holds (takes s g m k) = ((planAnswer m s g (lent (4 * length s))) .count ≡ k) × ((planAnswer m s g (lent (4 * length s))) .number ≡ 0)
 Holds (shows s g l) =
-    (deadlockSpace s g (lent (2 * length s)) ≡ onTop l (2 * length s))
-    × (2 * (deadlockAnswer s g (lent (2 * length s))) .count ≡ length l)
-    × ((deadlockAnswer s g (lent (2 * length s))) .number ≡ 0)
+    (deadlockSpace s g (lent (shownWidth * length s)) ≡ onTop l (shownWidth * length s))
+    × (shownWidth * (deadlockAnswer s g (lent (shownWidth * length s))) .count ≡ length l)
+    × ((deadlockAnswer s g (lent (shownWidth * length s))) .number ≡ 0)
 Holds (misplaces s g c) = ((planAnswer 1 s g (lent (4 * length s))) .misplaced ≡ c) × ((planAnswer 1 s g (lent (4 * length s))) .number ≡ 0)
 Holds (needs s g k) = Fewest s g k
 Holds (allDown s g k) = measure s g ≡ k
@@ -130,15 +131,15 @@ starred =
     gives S3now S3goal 1 (3 ∷ 0 ∷ 2 ∷ 3 ∷ 1 ∷ 2 ∷ []) ∷
     gives S3now S3goal 2 (3 ∷ 0 ∷ 2 ∷ 3 ∷ 1 ∷ 2 ∷ []) ∷
     gives S3now S3goal 3 (3 ∷ 0 ∷ 2 ∷ 3 ∷ 1 ∷ 2 ∷ []) ∷
-    -- S4: method 1 takes four lifts; method 2 lifts 1→0, 3→2, 1→4; deadlock pairs 1 4, 3 2
+    -- S4: method 1 takes four lifts; method 2 lifts 1→0, 3→2, 1→4; deadlock rows 1 4 4, 3 2 2
     takes S4now S4goal 1 4 ∷
     gives S4now S4goal 2 (1 ∷ 0 ∷ 3 ∷ 2 ∷ 1 ∷ 4 ∷ []) ∷
-    shows S4now S4goal (1 ∷ 4 ∷ 3 ∷ 2 ∷ []) ∷
-    -- S5: method 1 six lifts; methods 2 and 3 lift 1→0, 2→0, 4→3, 5→2, 1→5; deadlock pair 1 2
+    shows S4now S4goal (1 ∷ 4 ∷ 4 ∷ 3 ∷ 2 ∷ 2 ∷ []) ∷
+    -- S5: method 1 six lifts; methods 2 and 3 lift 1→0, 2→0, 4→3, 5→2, 1→5; deadlock row 1 2 0
     takes S5now S5goal 1 6 ∷
     gives S5now S5goal 2 (1 ∷ 0 ∷ 2 ∷ 0 ∷ 4 ∷ 3 ∷ 5 ∷ 2 ∷ 1 ∷ 5 ∷ []) ∷
     gives S5now S5goal 3 (1 ∷ 0 ∷ 2 ∷ 0 ∷ 4 ∷ 3 ∷ 5 ∷ 2 ∷ 1 ∷ 5 ∷ []) ∷
-    shows S5now S5goal (1 ∷ 2 ∷ []) ∷
+    shows S5now S5goal (1 ∷ 2 ∷ 0 ∷ []) ∷
     -- S6: misplaced 2; method 2 lifts 1→0, 2→0, 1→2
     misplaces S6now S6goal 2 ∷
     gives S6now S6goal 2 (1 ∷ 0 ∷ 2 ∷ 0 ∷ 1 ∷ 2 ∷ []) ∷
@@ -180,9 +181,13 @@ ties =
     gives (4 ∷ 0 ∷ 2 ∷ 0 ∷ 1 ∷ 3 ∷ []) (0 ∷ 6 ∷ 4 ∷ 2 ∷ 1 ∷ 0 ∷ []) 3 (6 ∷ 0 ∷ 3 ∷ 0 ∷ 2 ∷ 6 ∷ 5 ∷ 0 ∷ 1 ∷ 0 ∷ 4 ∷ 2 ∷ 3 ∷ 4 ∷ 5 ∷ 1 ∷ []) ∷
     gives (3 ∷ 0 ∷ 2 ∷ 1 ∷ 7 ∷ 0 ∷ 0 ∷ []) (2 ∷ 0 ∷ 0 ∷ 3 ∷ 6 ∷ 7 ∷ 0 ∷ []) 3 (4 ∷ 0 ∷ 1 ∷ 0 ∷ 3 ∷ 0 ∷ 1 ∷ 2 ∷ 4 ∷ 3 ∷ 5 ∷ 0 ∷ 6 ∷ 7 ∷ 5 ∷ 6 ∷ []) ∷
     gives (0 ∷ 6 ∷ 7 ∷ 8 ∷ 9 ∷ 0 ∷ 0 ∷ 0 ∷ 0 ∷ []) (8 ∷ 7 ∷ 6 ∷ 9 ∷ 1 ∷ 0 ∷ 0 ∷ 0 ∷ 0 ∷ []) 3 (4 ∷ 0 ∷ 1 ∷ 8 ∷ 5 ∷ 1 ∷ 4 ∷ 9 ∷ 2 ∷ 0 ∷ 3 ∷ 6 ∷ 2 ∷ 7 ∷ []) ∷
-    -- and so are the pairs of the deadlock test
-    shows (0 ∷ 0 ∷ 0 ∷ 2 ∷ 1 ∷ []) (0 ∷ 0 ∷ 1 ∷ 3 ∷ 2 ∷ []) (4 ∷ 1 ∷ 5 ∷ 2 ∷ []) ∷
-    shows (3 ∷ 4 ∷ 5 ∷ 0 ∷ 0 ∷ []) (3 ∷ 5 ∷ 0 ∷ 0 ∷ 4 ∷ []) (1 ∷ 3 ∷ []) ∷
+    -- and so are the rows of the deadlock test
+    shows (0 ∷ 0 ∷ 0 ∷ 2 ∷ 1 ∷ []) (0 ∷ 0 ∷ 1 ∷ 3 ∷ 2 ∷ []) (4 ∷ 1 ∷ 1 ∷ 5 ∷ 2 ∷ 2 ∷ []) ∷
+    shows (3 ∷ 4 ∷ 5 ∷ 0 ∷ 0 ∷ []) (3 ∷ 5 ∷ 0 ∷ 0 ∷ 4 ∷ []) (1 ∷ 3 ∷ 0 ∷ []) ∷
+    -- c is that of the stalled yard: 5 has gone onto 4 before; at the start it is 4
+    shows (2 ∷ 3 ∷ 0 ∷ 0 ∷ 0 ∷ []) (2 ∷ 5 ∷ 0 ∷ 0 ∷ 4 ∷ []) (1 ∷ 2 ∷ 5 ∷ []) ∷
+    -- and not what the block rests on in the goal: 5 and 3 lie between 1 and 4
+    shows (2 ∷ 3 ∷ 0 ∷ 0 ∷ 0 ∷ []) (5 ∷ 0 ∷ 4 ∷ 0 ∷ 3 ∷ []) (1 ∷ 3 ∷ 4 ∷ []) ∷
     []
 
 -- Every misplaced slab is counted and no other, as the yard stands at the start.
@@ -270,7 +275,8 @@ refusals =
     refusesPlan (2 ∷ 0 ∷ 0 ∷ []) (2 ∷ 1 ∷ 5 ∷ []) 3 12 7 3 ∷
     -- 10: one number too few
     refusesPlan S2now S2goal 2 7 10 0 ∷
-    refusesDeadlock S2now S2goal 3 10 ∷
+    refusesDeadlock S2now S2goal 5 10 ∷
+    refusesDeadlock S2now S2goal 4 10 ∷
     -- 11: an odd number of entries
     refusesReplay S2now S2goal (1 ∷ []) 11 ∷
     refusesReplay S2now S2goal (1 ∷ 0 ∷ 2 ∷ []) 11 ∷
@@ -281,10 +287,10 @@ pub record Limits : Type 0 where
   -- document 01: "4,000 entries pass question 2, 4,001 do not."
   pub most-passes : (s g : State) → length s ≡ 4000 → Problem s g → checkAnswer s g ≡ record { number = 0; place = 0 }
   pub more-refused : (s g : State) → length s ≡ 4001 → checkAnswer s g ≡ record { number = 2; place = 0 }
-  -- "Space of 4 × n passes, 4 × n − 1 does not." Likewise 2 × n for the deadlock test.
+  -- "Space of 4 × n passes, 4 × n − 1 does not." Likewise 3 × n for the deadlock test (document 02, Job 6).
   pub room-passes : (m : Method) (s g : State) (space : List ℕ) → Accepted s g → length space ≡ 4 * length s → (planAnswer (numberOf m) s g space) .number ≡ 0
   pub room-refused : (m : Method) (s g : State) (space : List ℕ) → Accepted s g → length space + 1 ≡ 4 * length s
       → planAnswer (numberOf m) s g space ≡ record { number = 10; place = 0; count = 0; misplaced = 0 }
-  pub pairs-pass : (s g : State) (space : List ℕ) → Accepted s g → length space ≡ 2 * length s → (deadlockAnswer s g space) .number ≡ 0
-  pub pairs-refused : (s g : State) (space : List ℕ) → Accepted s g → length space + 1 ≡ 2 * length s
+  pub rows-pass : (s g : State) (space : List ℕ) → Accepted s g → length space ≡ 3 * length s → (deadlockAnswer s g space) .number ≡ 0
+  pub rows-refused : (s g : State) (space : List ℕ) → Accepted s g → length space + 1 ≡ 3 * length s
       → deadlockAnswer s g space ≡ record { number = 10; place = 0; count = 0 }

@@ -7,9 +7,10 @@ use mathlib.Core.List.{List, [], _∷_, _++_}
 use lib.ListN.{length, getD}
 use Rattle.lists.specs.Search.{Lowest}
 use Rattle.blocks.specs.State.{State, support, put, down, Above, Clear}
-use Rattle.blocks.specs.Position.{InPosition, Misplaced}
+use Rattle.blocks.specs.Position.{Misplaced, Nearest}
 use Rattle.blocks.specs.Move.{_⟶_, Plan, after}
 use Rattle.blocks.specs.Stall.{Waiting, Perched, Ready, NoneReady}
+use Rattle.blocks.specs.Loop.{shownWidth}
 use Rattle.blocks.specs.Method.{Method, Us, Gn1, Gn2}
 
 -- ---- steps one after the other
@@ -32,13 +33,10 @@ pub record Clears (g s : State) (a x : ℕ) : Type 0 where
 -- ---- the loop
 
 -- "Walk down b's goal pile, b left out, to the first slab in position, or the ground; call it c. Let d be the slab that rests on c in that goal pile,
--- possibly b." The table is in position.
+-- possibly b."
 pub record Foot (s g : State) (b c d : ℕ) : Type 0 where
-  pub steps : ℕ
-  pub last : down g steps b ≡ d
-  pub rests : support g d ≡ c
-  pub position : InPosition s g c
-  pub first : (i : ℕ) → 1 ≤ i → i ≤ steps → Misplaced s g (down g i b)
+  pub nearest : Nearest s g b c
+  pub last : down g (nearest .steps) b ≡ d
 
 -- x is "the slab through which its successor is in its way (c when c is not clear, else d)", of b.
 pub data InTheWay (s g : State) (b x : ℕ) : Type 0 where
@@ -89,6 +87,10 @@ pub record Stalled (s g : State) : Type 0 where
   pub misplaced : Misplaced s g block
   pub none-ready : NoneReady s g
 
+-- "while a constructive lift exists, the lowest-numbered slab that has one makes it"; of the deadlock test, "until none is left".
+abbrev pub ByBuilding : State → State → Plan → Type 0
+ByBuilding s g p = Steps (Builds g) (λ t. NoneReady t g) s p
+
 -- "1 (US): while some misplaced clear slab is off the ground, the lowest-numbered such slab goes to the ground; then, while a constructive lift exists,
 -- the lowest-numbered slab that has one makes it."
 pub record ByUs (s g : State) (p : Plan) : Type 0 where
@@ -96,7 +98,7 @@ pub record ByUs (s g : State) (p : Plan) : Type 0 where
   pub then : Plan
   pub whole : p ≡ first ++ then
   pub clearing : Steps (Clears g) (λ t. (b : ℕ) → ¬ Perched t g b) s first
-  pub building : Steps (Builds g) (λ t. NoneReady t g) (after s first) then
+  pub building : ByBuilding (after s first) g then
 
 -- A step of methods 2 and 3: "the lowest-numbered slab with a constructive lift makes it; when there is none", a block is put down.
 pub data Solving (PutsDown : State → State → ℕ → ℕ → Type 0) (g s : State) (a x : ℕ) : Type 0 where
@@ -120,14 +122,15 @@ pub record Onward (s g : State) (l : List ℕ) : Type 0 where
   pub turned : l ≡ back ++ front
   pub lowest : Lowest (On l) (length s) (getD l 0 0)
 
--- Written "as pairs: the slab, and the slab through which its successor is in its way".
-pub record Pairs (s g : State) (l pairs : List ℕ) : Type 0 where
-  pub size : length pairs ≡ 2 * length l
-  pub slab : (i : ℕ) → i < length l → getD pairs (2 * i) 0 ≡ getD l i 0
-  pub way : (i : ℕ) → i < length l → InTheWay s g (getD l i 0) (getD pairs (2 * i + 1) 0)
+-- Three numbers a block: "the slab, and the slab through which its successor is in its way", and c.
+pub record Rows (s g : State) (l rows : List ℕ) : Type 0 where
+  pub size : length rows ≡ shownWidth * length l
+  pub slab : (i : ℕ) → i < length l → getD rows (shownWidth * i) 0 ≡ getD l i 0
+  pub way : (i : ℕ) → i < length l → InTheWay s g (getD l i 0) (getD rows (shownWidth * i + 1) 0)
+  pub nearest : (i : ℕ) → i < length l → Nearest s g (getD l i 0) (getD rows (shownWidth * i + 2) 0)
 
 -- It "makes constructive lifts, as in method 2, on a copy of the yard until none is left. No misplaced slab left: the answer is none, count 0. Otherwise
--- the count is the length of the loop, and the loop is written".
-pub data ByTest (s g : State) (l pairs : List ℕ) : Type 0 where
-  none : (p : Plan) → Steps (Builds g) (λ t. NoneReady t g) s p → NoneMisplaced g (after s p) → l ≡ [] → pairs ≡ [] → ByTest s g l pairs
-  found : (p : Plan) → Steps (Builds g) (λ t. NoneReady t g) s p → Stalled (after s p) g → Onward (after s p) g l → Pairs (after s p) g l pairs → ByTest s g l pairs
+-- the count is the length of the loop, and the loop is written". Document 02, Job 6: c "as the yard stands when it stalls".
+pub data ByTest (s g : State) (l rows : List ℕ) : Type 0 where
+  none : (p : Plan) → ByBuilding s g p → NoneMisplaced g (after s p) → l ≡ [] → rows ≡ [] → ByTest s g l rows
+  found : (p : Plan) → ByBuilding s g p → Stalled (after s p) g → Onward (after s p) g l → Rows (after s p) g l rows → ByTest s g l rows

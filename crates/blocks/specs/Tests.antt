@@ -1,10 +1,11 @@
 -- The notions that the methods ask for, as tests that compute. Each agrees with its notion on proper states (`Theorems`, in Demands).
 -- Assumes nothing.
 use Prim.Native.Nat.{ℕ, zero, suc, _+_}
-use mathlib.Core.Bool.{Bool, not, _&&_, _||_}
+use mathlib.Core.Bool.{Bool, true, false, not, _&&_, _||_, cond}
 use lib.Dec.{eqb}
 use lib.ListN.{length}
 use Rattle.blocks.specs.State.{State, support, down}
+use Rattle.blocks.specs.Position.{Position, inPosition, misplacedAbove, named}
 use Rattle.lists.specs.Search.{lowest, count}
 
 -- The lowest block that rests on b; 0 where none does. On a proper state no other rests there.
@@ -24,9 +25,29 @@ unfoldable pub agreesᵇ : State → State → ℕ → ℕ → Bool
 agreesᵇ s g zero b = eqb (support s b) (support g b)
 agreesᵇ s g (suc k) b = eqb (support s b) (support g b) && agreesᵇ s g k (support s b)
 
--- document 01: in position, and misplaced.
+-- All the way down: no more steps are needed than there are blocks.
+abbrev pub towerAgreesᵇ : State → State → ℕ → Bool
+towerAgreesᵇ s g b = agreesᵇ s g (length s) b
+
+-- The first block in position from b down b's goal tower, or the table.
+unfoldable pub firstRight : State → State → ℕ → ℕ → ℕ
+firstRight s g zero b = 0
+firstRight s g (suc k) b = cond (towerAgreesᵇ s g b) b (firstRight s g k (support g b))
+
+-- The position test: document 01's in position and misplaced, and of a misplaced block c. Both are taken from here alone.
+unfoldable pub position : State → State → ℕ → Position
+position s g b = cond (towerAgreesᵇ s g b) inPosition (misplacedAbove (firstRight s g (length s) (support g b)))
+
+abbrev pub isRight : Position → Bool
+isRight inPosition = true
+isRight (misplacedAbove c) = false
+
 unfoldable pub inPositionᵇ : State → State → ℕ → Bool
-inPositionᵇ s g b = agreesᵇ s g (length s) b
+inPositionᵇ s g b = isRight (position s g b)
+
+-- document 01's c: "Walk down b's goal pile, b left out, to the first slab in position, or the ground; call it c."
+unfoldable pub nearest : State → State → ℕ → ℕ
+nearest s g b = named (position s g b)
 
 unfoldable pub misplacedᵇ : State → State → ℕ → Bool
 misplacedᵇ s g b = not (inPositionᵇ s g b)

@@ -9,7 +9,8 @@ use lib.ListN.{length}
 use Rattle.lists.specs.Search.{Lowest}
 use Rattle.blocks.specs.State.{State, support, put}
 use Rattle.blocks.specs.Move.{_⟶_, Plan, after}
-use Rattle.blocks.specs.Method.{planOf, planOutcome, deadlockPairs, deadlockLoop}
+use Rattle.blocks.specs.Loop.{shownWidth}
+use Rattle.blocks.specs.Method.{planOf, planOutcome, deadlockRows, deadlockLoop}
 use Rattle.blocks.specs.Question.{Question, asks, firstNo, FirstNo, asksMethod, asksRoom, asksEven, asksPlan, problemQuestions}
 use Rattle.blocks.specs.Replay.{moveQuestions}
 use Rattle.blocks.specs.Answer.{flat, moves, CheckAnswer, checked, PlanAnswer, planned, written, DeadlockAnswer, tested}
@@ -25,7 +26,7 @@ unfoldable pub planQuestionsWith : Lengths → ℕ → State → State → List 
 planQuestionsWith ls m s g space = asksMethod m ∷ (problemQuestionsWith ls s g ++ (asksRoom (4 * length s) space ∷ asksPlan (planOutcome m s g) ∷ []))
 
 unfoldable pub deadlockQuestionsWith : Lengths → State → State → List ℕ → List Question
-deadlockQuestionsWith ls s g space = problemQuestionsWith ls s g ++ (asksRoom (2 * length s) space ∷ [])
+deadlockQuestionsWith ls s g space = problemQuestionsWith ls s g ++ (asksRoom (shownWidth * length s) space ∷ [])
 
 unfoldable pub replayQuestionsWith : Lengths → State → State → List ℕ → List Question
 replayQuestionsWith ls s g lifts = problemQuestionsWith ls s g ++ (asksEven lifts ∷ [])
@@ -59,7 +60,7 @@ unfoldable pub deadlockAnswerWith : Lengths → State → State → List ℕ →
 deadlockAnswerWith ls s g space = tested (firstNo (deadlockQuestionsWith ls s g space)) (deadlockLoop s g)
 
 unfoldable pub deadlockSpaceWith : Lengths → State → State → List ℕ → List ℕ
-deadlockSpaceWith ls s g space = written (firstNo (deadlockQuestionsWith ls s g space)) (deadlockPairs s g) space
+deadlockSpaceWith ls s g space = written (firstNo (deadlockQuestionsWith ls s g space)) (deadlockRows s g) space
 
 -- ---- replay
 

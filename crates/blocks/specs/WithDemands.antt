@@ -14,6 +14,7 @@ use Rattle.blocks.specs.Position.{Misplaced}
 use Rattle.blocks.specs.Move.{Plan, Legal, Constructive}
 use Rattle.blocks.specs.Tests.{misplacedCount}
 use Rattle.blocks.specs.Deadlock.{Deadlocked}
+use Rattle.blocks.specs.Loop.{shownWidth}
 use Rattle.blocks.specs.Method.{Method, Us, plan, outcome, numberOf}
 use Rattle.blocks.specs.Question.{allYes, no′, firstNo, numbers, IsMethod}
 use Rattle.blocks.specs.Answer.{moves, checkAnswer, planAnswer, planSpace, writtenPlan, deadlockAnswer, deadlockSpace, noVerdict, replayAnswer}
@@ -78,7 +79,7 @@ pub record WithTheorems : Type 0 where
   pub plan-refuses : (ls : Lengths) (m : ℕ) (s g : State) (space : List ℕ) (k p : ℕ)
       → (firstNo (planQuestionsWith ls m s g space) ≡ no′ k p) ↔ PlanRefusedWith ls m s g space k p
   pub deadlock-accepts : (ls : Lengths) (s g : State) (space : List ℕ)
-      → (firstNo (deadlockQuestionsWith ls s g space) ≡ allYes) ↔ (AcceptedWith ls s g × (2 * length s ≤ length space))
+      → (firstNo (deadlockQuestionsWith ls s g space) ≡ allYes) ↔ (AcceptedWith ls s g × (shownWidth * length s ≤ length space))
   pub deadlock-refuses : (ls : Lengths) (s g : State) (space : List ℕ) (k p : ℕ)
       → (firstNo (deadlockQuestionsWith ls s g space) ≡ no′ k p) ↔ DeadlockRefusedWith ls s g space k p
   pub replay-accepts : (ls : Lengths) (s g : State) (lifts : List ℕ)

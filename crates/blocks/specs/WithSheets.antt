@@ -5,6 +5,7 @@ use mathlib.Core.List.{List, [], _∷_}
 use mathlib.Core.Option.{some}
 use lib.ListN.{length}
 use Rattle.blocks.specs.State.{State}
+use Rattle.blocks.specs.Loop.{shownWidth}
 use Rattle.blocks.specs.Sheets.{lent, onTop}
 use Rattle.blocks.specs.With.{checkAnswerWith, planAnswerWith, planSpaceWith, deadlockAnswerWith, deadlockSpaceWith, replayAnswerWith}
 
@@ -12,7 +13,7 @@ use Rattle.blocks.specs.With.{checkAnswerWith, planAnswerWith, planSpace
 pub data Claim : Type 0 where
   checks : List ℕ → State → State → ℕ → ℕ → Claim  -- a check answers this number and place
   gives : List ℕ → State → State → ℕ → List ℕ → Claim  -- the method writes this list
-  shows : List ℕ → State → State → List ℕ → Claim  -- the deadlock test writes these pairs
+  shows : List ℕ → State → State → List ℕ → Claim  -- the deadlock test writes these rows
   replays : List ℕ → State → State → List ℕ → ℕ → ℕ → Claim  -- the list has this verdict and place
   refusesPlan : List ℕ → State → State → ℕ → ℕ → ℕ → ℕ → Claim  -- by the method, with so many numbers lent: number, place
   refusesDeadlock : List ℕ → State → State → ℕ → ℕ → ℕ → Claim  -- with so many numbers lent: number, place
@@ -25,9 +26,9 @@ Holds (gives l s g m w) =
     × (2 * (planAnswerWith (some l) m s g (lent (4 * length s))) .count ≡ length w)
     × ((planAnswerWith (some l) m s g (lent (4 * length s))) .number ≡ 0)
 Holds (shows l s g w) =
-    (deadlockSpaceWith (some l) s g (lent (2 * length s)) ≡ onTop w (2 * length s))
-    × (2 * (deadlockAnswerWith (some l) s g (lent (2 * length s))) .count ≡ length w)
-    × ((deadlockAnswerWith (some l) s g (lent (2 * length s))) .number ≡ 0)
+    (deadlockSpaceWith (some l) s g (lent (shownWidth * length s)) ≡ onTop w (shownWidth * length s))
+    × (shownWidth * (deadlockAnswerWith (some l) s g (lent (shownWidth * length s))) .count ≡ length w)
+    × ((deadlockAnswerWith (some l) s g (lent (shownWidth * length s))) .number ≡ 0)
 Holds (replays l s g w v p) = replayAnswerWith (some l) s g w ≡ record { number = 0; verdict = v; place = p }
 Holds (refusesPlan l s g m n k p) =
     (planAnswerWith (some l) m s g (lent n) ≡ record { number = k; place = p; count = 0; misplaced = 0 })
@@ -71,7 +72,7 @@ measured =
     -- S2 and S4 with lengths that are accepted: the lists without them
     gives (200 ∷ 200 ∷ []) (2 ∷ 0 ∷ []) (0 ∷ 1 ∷ []) 2 (1 ∷ 0 ∷ 2 ∷ 1 ∷ []) ∷
     gives (100 ∷ 300 ∷ 100 ∷ 200 ∷ []) (2 ∷ 0 ∷ 4 ∷ 0 ∷ []) (4 ∷ 0 ∷ 2 ∷ 0 ∷ []) 2 (1 ∷ 0 ∷ 3 ∷ 2 ∷ 1 ∷ 4 ∷ []) ∷
-    shows (100 ∷ 300 ∷ 100 ∷ 200 ∷ []) (2 ∷ 0 ∷ 4 ∷ 0 ∷ []) (4 ∷ 0 ∷ 2 ∷ 0 ∷ []) (1 ∷ 4 ∷ 3 ∷ 2 ∷ []) ∷
+    shows (100 ∷ 300 ∷ 100 ∷ 200 ∷ []) (2 ∷ 0 ∷ 4 ∷ 0 ∷ []) (4 ∷ 0 ∷ 2 ∷ 0 ∷ []) (1 ∷ 4 ∷ 4 ∷ 3 ∷ 2 ∷ 2 ∷ []) ∷
     -- verdict 6: onto a shorter slab; asked after 4
     replays (300 ∷ 200 ∷ 100 ∷ []) (0 ∷ 0 ∷ 2 ∷ []) (0 ∷ 1 ∷ 2 ∷ []) (3 ∷ 0 ∷ 1 ∷ 2 ∷ []) 6 2 ∷
     replays (300 ∷ 200 ∷ 100 ∷ []) (0 ∷ 0 ∷ 2 ∷ []) (0 ∷ 1 ∷ 2 ∷ []) (1 ∷ 2 ∷ []) 4 1 ∷
@@ -87,7 +88,7 @@ measured =
     refusesPlan (200 ∷ 200 ∷ []) (2 ∷ 0 ∷ []) (0 ∷ 1 ∷ []) 2 7 10 0 ∷
     refusesDeadlock (200 ∷ []) (2 ∷ 0 ∷ []) (0 ∷ 1 ∷ []) 3 16 0 ∷
     refusesDeadlock (200 ∷ 300 ∷ []) (2 ∷ 0 ∷ []) (0 ∷ 1 ∷ []) 3 18 2 ∷
-    refusesDeadlock (200 ∷ 200 ∷ []) (2 ∷ 0 ∷ []) (0 ∷ 1 ∷ []) 3 10 0 ∷
+    refusesDeadlock (200 ∷ 200 ∷ []) (2 ∷ 0 ∷ []) (0 ∷ 1 ∷ []) 5 10 0 ∷
     refusesReplay (200 ∷ 300 ∷ []) (2 ∷ 0 ∷ []) (0 ∷ 1 ∷ []) (1 ∷ []) 18 2 ∷
     refusesReplay (200 ∷ 200 ∷ []) (2 ∷ 0 ∷ []) (0 ∷ 1 ∷ []) (1 ∷ []) 11 0 ∷
     []

@@ -14,7 +14,7 @@ use Rattle.rows.specs.Rows.{Yard, seenOf, looseOf}
 use Rattle.blocks.specs.State.{State}
 use Rattle.blocks.specs.Stall.{Waiting, NoneReady}
 use Rattle.blocks.specs.Tests.{misplacedCount}
-use Rattle.blocks.specs.Loop.{loop, onward, blockedPairs}
+use Rattle.blocks.specs.Loop.{loop, onward, blockedRows}
 use Rattle.blocks.proofs.LoopLaws.{loop-closed, loop-short, onward-length}
 use Rattle.numberset.specs.Members.{member, Valid, highest}
 use Rattle.statuses.specs.Kept.{Kept}
@@ -29,13 +29,13 @@ use Rattle.deadlocks.specs.Looks.{Shows, Showable, Lookable, Looked, loo
 
 -- nothing is misplaced, so there is no loop to write
 pub nothing : {s g : State} (out : List ℕ) → misplacedCount s g ≡ 0 → Looked s g out 0 out
-unfolding blockedPairs
+unfolding blockedRows
 nothing {s} {g} out none = record { count = ap length (sym empty); written = by (loopOf s g) empty }
   where
     empty : loopOf s g ≡ []
     empty = ap (λ t. cond t [] (onward s (loop s g))) (eq-eqb (misplacedCount s g) 0 none)
 
-    by : (m : List ℕ) → m ≡ [] → out ≡ overwrite (blockedPairs s g m) out
+    by : (m : List ℕ) → m ≡ [] → out ≡ overwrite (blockedRows s g m) out
     by m h = rw h refl
 
 module _ {y z : Yard} {k : ℕ} {out : List ℕ} (w : Lookable y z k out) where
@@ -97,12 +97,12 @@ module _ {y z : Yard} {k : ℕ} {out : List ℕ} (w : Lookable y z k out) where
               }
 
           -- the loop is written
-          pub loop-way : {out′ : List ℕ} → ((s g : State) → Shows s g y′ low count → out′ ≡ overwrite (blockedPairs s g (onward s (loop s g))) out)
+          pub loop-way : {out′ : List ℕ} → ((s g : State) → Shows s g y′ low count → out′ ≡ overwrite (blockedRows s g (onward s (loop s g))) out)
               → (s g : State) → Kept Gn2 s g y z → NoneReady s g → Looked s g out count out′
           loop-way o s g q still =
               let waits = pick.start-waits q refl e n in
               let whole : loopOf s g ≡ onward s (loop s g) = ap (λ t. cond t [] (onward s (loop s g))) (ne-eqb (misplacedCount s g) 0 (counted (q .known .problem) (waits .0))) in
               record {
                 count = c ∙ size s g q still ∙ sym (onward-length s (loop s g)) ∙ ap length (sym whole);
-                written = o s g (shows s g q still) ∙ ap (λ m. overwrite (blockedPairs s g m) out) (sym whole);
+                written = o s g (shows s g q still) ∙ ap (λ m. overwrite (blockedRows s g m) out) (sym whole);
               }

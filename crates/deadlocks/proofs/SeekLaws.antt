@@ -10,7 +10,7 @@ use Rattle.rows.specs.Rows.{Yard, looseOf}
 use Rattle.blocks.specs.State.{State, most}
 use Rattle.blocks.specs.Position.{Problem}
 use Rattle.blocks.specs.Stall.{NoneReady}
-use Rattle.blocks.specs.Method.{stop, toGoal, endOf, lowestReady, building, built, deadlockLoop, deadlockPairs}
+use Rattle.blocks.specs.Method.{stop, toGoal, endOf, lowestReady, building, built, deadlockLoop, deadlockRows}
 use Rattle.blocks.proofs.StepLaws.{ready-none}
 use Rattle.blocks.proofs.MethodLaws.{enough}
 use Rattle.numberset.specs.Members.{member, Valid, highest}
@@ -60,7 +60,7 @@ module _ {s g : State} {y : Yard} {out : List ℕ} (w : Seekable s g y out) wher
       loose-may = pick.loose-may (f .ran .kept)
 
       pub sought : {r : ℕ} {out′ : List ℕ} → Looked t g out r out′ → Sought s g out r out′
-      unfolding deadlockLoop deadlockPairs
+      unfolding deadlockLoop deadlockRows
       sought {r} {out′} v = let u = subst (λ i. Looked i g out r out′) is-built v in record { count = u .count; written = u .written }
 
       -- nothing is perched and nothing ready, so nothing is misplaced

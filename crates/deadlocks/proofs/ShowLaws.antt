@@ -1,5 +1,5 @@
--- Writing the loop as pairs: what is known after i blocks. Idea: from its lowest block onward the loop is closed under successors, so each successor is the next block.
--- Assumes nothing.
+-- Writing the loop as rows: what is known after i blocks. Idea: from its lowest block onward the loop is closed under successors, so each successor is
+-- the next block. Assumes nothing.
 use Prim.Native.Nat.{ℕ, suc, _+_, _*_, _≤_, _<_}
 use mathlib.Core.Path.{_≡_, refl, sym, ap, ap₂, _∙_}
 use mathlib.Core.List.{List, [], _∷_, _++_}
@@ -12,32 +12,49 @@ use Rattle.blocks.specs.State.{State}
 use Rattle.blocks.specs.Position.{Problem, Misplaced}
 use Rattle.blocks.specs.Deadlock.{wrap, next}
 use Rattle.blocks.specs.Stall.{Waiting, IsLoop}
-use Rattle.blocks.specs.Loop.{blocker, successor, loop, onward, blockedPairs}
+use Rattle.blocks.specs.Tests.{nearest}
+use Rattle.blocks.specs.Loop.{blocker, successor, loop, onward, blockedRows, shownWidth}
 use Rattle.lists.specs.Lists.{overwrite}
 use Rattle.lists.proofs.ReflectLaws.{to-true, ltb-reflects}
 use Rattle.blocks.proofs.PositionLaws.{misplaced-block}
+use Rattle.blocks.proofs.NearestLaws.{nearest-is}
 use Rattle.blocks.proofs.StallLaws.{successor-waits}
 use Rattle.blocks.proofs.LoopLaws.{onward-closed, onward-length, onward-first}
-use Rattle.blocks.proofs.DeadlockTestLaws.{pairs-length}
+use Rattle.blocks.proofs.DeadlockTestLaws.{rows-length}
 use Rattle.towers.specs.Linked.{Linked, Findable, Found}
 use Rattle.towers.specs.declared.Blocked.{Blocked}
 use Rattle.towers.proofs.BottomLaws.{down-inside}
 use Rattle.lists.proofs.WriteLaws.{sets-append, sets-front}
-use Rattle.deadlocks.specs.Looks.{Shows, Showable}
+use Rattle.deadlocks.specs.Looks.{rowAt, Shows, Showable}
 
 -- i blocks are written, and b is the next
 pub record Showing (s g : State) (out₀ : List ℕ) (count : ℕ) (out : List ℕ) (b i : ℕ) : Type 0 where
   pub within : i ≤ count
   pub here : i < count → b ≡ getD (onward s (loop s g)) i 0
-  pub written : out ≡ sets out₀ 0 (blockedPairs s g (take i (onward s (loop s g))))
+  pub written : out ≡ sets out₀ 0 (blockedRows s g (take i (onward s (loop s g))))
+
+-- the k-th row where it is written, and as the writing of a list at a place
+row-at : (out : List ℕ) (k at b x y : ℕ) → shownWidth * k ≡ at → rowAt out k b x y ≡ set (set (set out at b) (suc at) x) (suc (suc at)) y
+row-at out k at b x y e =
+    let one : shownWidth * k + 1 ≡ suc at = omega (arith, e) in
+    let two : shownWidth * k + 2 ≡ suc (suc at) = omega (arith, e) in
+    rw (one, two, e)
+
+pub second-in : (out : List ℕ) (k b : ℕ) → shownWidth * k + 2 < length out → shownWidth * k + 1 < length (set out (shownWidth * k) b)
+second-in out k b h = omega (arith, h, length-set out (shownWidth * k) b)
+
+row-long : (out : List ℕ) (k b x y : ℕ) → length (rowAt out k b x y) ≡ length out
+row-long out k b x y =
+    let w = shownWidth * k in
+    length-set (set (set out w b) (w + 1) x) (w + 2) y ∙ length-set (set out w b) (w + 1) x ∙ length-set out w b
 
 -- one block more
-pairs-snoc : (s g : State) (l : List ℕ) (b : ℕ) → blockedPairs s g (l ++ (b ∷ [])) ≡ blockedPairs s g l ++ (b ∷ blocker s g b ∷ [])
-unfolding blockedPairs
-pairs-snoc s g [] b = refl
-pairs-snoc s g (c ∷ l) b = ap (λ r. c ∷ blocker s g c ∷ r) (pairs-snoc s g l b)
+rows-snoc : (s g : State) (l : List ℕ) (b : ℕ) → blockedRows s g (l ++ (b ∷ [])) ≡ blockedRows s g l ++ (b ∷ blocker s g b ∷ nearest s g b ∷ [])
+unfolding blockedRows
+rows-snoc s g [] b = refl
+rows-snoc s g (c ∷ l) b = ap (λ r. c ∷ blocker s g c ∷ nearest s g c ∷ r) (rows-snoc s g l b)
 
-module _ {s g : State} {y : Yard} {low count : ℕ} (w : Shows s g y low count) (out₀ : List ℕ) (room : 2 * count ≤ length out₀) where
+module _ {s g : State} {y : Yard} {low count : ℕ} (w : Shows s g y low count) (out₀ : List ℕ) (room : shownWidth * count ≤ length out₀) where
   p : Problem s g
   p = w .linked .known .problem
 
@@ -51,7 +68,7 @@ module _ {s g : State} {y : Yard} {low count : ℕ} (w : Shows s g y low count) 
   long = onward-length s (loop s g) ∙ sym (w .size)
 
   begin : Showing s g out₀ count out₀ low 0
-  unfolding blockedPairs
+  unfolding blockedRows
   begin = record { within = omega arith; here = λ h. w .first ∙ sym (onward-first p (w .closed)); written = refl }
 
   module _ {out : List ℕ} {b i : ℕ} (v : Showing s g out₀ count out b i) (h : i < count) where
@@ -61,8 +78,8 @@ module _ {s g : State} {y : Yard} {low count : ℕ} (w : Shows s g y low count) 
     waits : Waiting s g b
     waits = rw (v .here h) (closed .waiting i inside)
 
-    pair-fits : 2 * i + 1 < length out
-    pair-fits = omega (arith, h, room, ap length (v .written) ∙ length-sets out₀ 0 (blockedPairs s g (take i (onward s (loop s g)))))
+    row-fits : shownWidth * i + 2 < length out
+    row-fits = omega (arith, h, room, ap length (v .written) ∙ length-sets out₀ 0 (blockedRows s g (take i (onward s (loop s g)))))
 
     block-fits : b < 65536
     block-fits = omega (arith, w .linked .known .small, misplaced-block (p .same) (waits .0) .high)
@@ -74,7 +91,14 @@ module _ {s g : State} {y : Yard} {low count : ℕ} (w : Shows s g y low count) 
         let high : blocker s g b ≤ length g = rw (sym (above .reaches)) (down-inside (p .goal) (suc (above .steps)) b (omega (arith, block .high, p .same))) in
         omega (arith, w .linked .known .small, high, f .by, p .same)
 
-    next-shown : {r : Blocked} {out′ : List ℕ} → Found s g b r → out′ ≡ set (set out (2 * i) b) (2 * i + 1) (r .by)
+    third-fits : {r : Blocked} → Found s g b r → r .above < 65536
+    third-fits {r} f =
+        let c = nearest-is p b (waits .0) in
+        let block = misplaced-block (p .same) (waits .0) in
+        let high : nearest s g b ≤ length g = rw (sym (c .beneath)) (down-inside (p .goal) (suc (c .steps)) b (omega (arith, block .high, p .same))) in
+        omega (arith, w .linked .known .small, high, f .above, p .same)
+
+    next-shown : {r : Blocked} {out′ : List ℕ} → Found s g b r → out′ ≡ rowAt out i b (r .by) (r .above)
         → Showing s g out₀ count out′ (r .next) (i + 1)
     next-shown {r} f o =
         record {
@@ -87,31 +111,32 @@ module _ {s g : State} {y : Yard} {low count : ℕ} (w : Shows s g y low count) 
               ∙ ap (λ j. getD (onward s (loop s g)) j 0) (sym (add-one i));
           written =
               o
-              ∙ ap₂ (λ o x. set (set o (2 * i) b) (2 * i + 1) x) (v .written) (f .by)
-              ∙ ap₂ (λ j k. set (set (sets out₀ 0 pairs) j b) k (blocker s g b)) at (omega (arith, at))
-              ∙ sym (sets-append out₀ 0 pairs (b ∷ blocker s g b ∷ []))
+              ∙ ap₂ (λ x y. rowAt out i b x y) (f .by) (f .above)
+              ∙ ap (λ o. rowAt o i b (blocker s g b) (nearest s g b)) (v .written)
+              ∙ row-at (sets out₀ 0 rows) i (0 + length rows) b (blocker s g b) (nearest s g b) at
+              ∙ sym (sets-append out₀ 0 rows (b ∷ blocker s g b ∷ nearest s g b ∷ []))
               ∙ ap (sets out₀ 0) (sym more);
         }
       where
-        pairs : List ℕ
-        pairs = blockedPairs s g (take i (onward s (loop s g)))
+        rows : List ℕ
+        rows = blockedRows s g (take i (onward s (loop s g)))
 
-        at : 2 * i ≡ 0 + length (blockedPairs s g (take i (onward s (loop s g))))
-        at = omega (arith, pairs-length s g (take i (onward s (loop s g))), length-take-le i (onward s (loop s g)) (omega (arith, inside)))
+        at : shownWidth * i ≡ 0 + length (blockedRows s g (take i (onward s (loop s g))))
+        at = omega (arith, rows-length s g (take i (onward s (loop s g))), length-take-le i (onward s (loop s g)) (omega (arith, inside)))
 
-        more : blockedPairs s g (take (i + 1) (onward s (loop s g))) ≡ blockedPairs s g (take i (onward s (loop s g))) ++ (b ∷ blocker s g b ∷ [])
+        more : blockedRows s g (take (i + 1) (onward s (loop s g))) ≡ blockedRows s g (take i (onward s (loop s g))) ++ (b ∷ blocker s g b ∷ nearest s g b ∷ [])
         more =
-            ap (λ j. blockedPairs s g (take j (onward s (loop s g)))) (add-one i)
-            ∙ ap (blockedPairs s g) (take-suc (onward s (loop s g)) i 0 inside)
-            ∙ ap (λ c. blockedPairs s g (take i (onward s (loop s g)) ++ (c ∷ []))) (sym (v .here h))
-            ∙ pairs-snoc s g (take i (onward s (loop s g))) b
+            ap (λ j. blockedRows s g (take j (onward s (loop s g)))) (add-one i)
+            ∙ ap (blockedRows s g) (take-suc (onward s (loop s g)) i 0 inside)
+            ∙ ap (λ c. blockedRows s g (take i (onward s (loop s g)) ++ (c ∷ []))) (sym (v .here h))
+            ∙ rows-snoc s g (take i (onward s (loop s g))) b
 
   -- all are written
-  finish : {out : List ℕ} {b i : ℕ} → Showing s g out₀ count out b i → count ≤ i → out ≡ overwrite (blockedPairs s g (onward s (loop s g))) out₀
+  finish : {out : List ℕ} {b i : ℕ} → Showing s g out₀ count out b i → count ≤ i → out ≡ overwrite (blockedRows s g (onward s (loop s g))) out₀
   finish {out} {b} {i} v h =
       v .written
-      ∙ ap (λ m. sets out₀ 0 (blockedPairs s g m)) (take-all i (onward s (loop s g)) (omega (arith, h, long)))
-      ∙ sets-front (blockedPairs s g (onward s (loop s g))) out₀ (omega (arith, pairs-length s g (onward s (loop s g)), long, room))
+      ∙ ap (λ m. sets out₀ 0 (blockedRows s g m)) (take-all i (onward s (loop s g)) (omega (arith, h, long)))
+      ∙ sets-front (blockedRows s g (onward s (loop s g))) out₀ (omega (arith, rows-length s g (onward s (loop s g)), long, room))
 
 -- ---- the same of whatever problem the rows are
 
@@ -127,7 +152,7 @@ module _ {y : Yard} {low count : ℕ} {out₀ : List ℕ} {b i : ℕ} {out : Lis
   here-is : Showing (w .some .state) (w .some .goal) out₀ count out b i
   here-is = w .every (w .some .state) (w .some .goal) (w .some .shows)
 
-  pub writing-end : count ≤ i → (s g : State) → Shows s g y low count → out ≡ overwrite (blockedPairs s g (onward s (loop s g))) out₀
+  pub writing-end : count ≤ i → (s g : State) → Shows s g y low count → out ≡ overwrite (blockedRows s g (onward s (loop s g))) out₀
   writing-end h s g v = finish v out₀ (w .some .room) (w .every s g v) h
 
   module _ (h : i < count) where
@@ -144,18 +169,19 @@ module _ {y : Yard} {low count : ℕ} {out₀ : List ℕ} {b i : ℕ} {out : Lis
       found : (s g : State) → Shows s g y low count → Found s g b r
       found s g v = f s g (v .linked) (waits v out₀ (w .some .room) (w .every s g v) h .0)
 
-      pub may-write : (2 * i + 1 < length out) × (b < 65536) × (r .by < 65536)
+      pub may-write : (shownWidth * i + 2 < length out) × (b < 65536) × (r .by < 65536) × (r .above < 65536)
       may-write =
           let v = w .some .shows in (
-            pair-fits v out₀ (w .some .room) here-is h,
+            row-fits v out₀ (w .some .room) here-is h,
             block-fits v out₀ (w .some .room) here-is h,
             beside-fits v out₀ (w .some .room) here-is h (found (w .some .state) (w .some .goal) v),
+            third-fits v out₀ (w .some .room) here-is h (found (w .some .state) (w .some .goal) v),
           )
 
-      pub writing-next : {out′ : List ℕ} → out′ ≡ set (set out (2 * i) b) (2 * i + 1) (r .by) → Writing y low count out₀ (r .next) (i + 1) out′
+      pub writing-next : {out′ : List ℕ} → out′ ≡ rowAt out i b (r .by) (r .above) → Writing y low count out₀ (r .next) (i + 1) out′
       writing-next {out′} o =
           record {
             some = w .some;
             every = λ s g v. next-shown v out₀ (w .some .room) (w .every s g v) h (found s g v) o;
-            long = ap length o ∙ length-set (set out (2 * i) b) (2 * i + 1) (r .by) ∙ length-set out (2 * i) b ∙ w .long;
+            long = ap length o ∙ row-long out i b (r .by) (r .above) ∙ w .long;
           }

@@ -11,7 +11,8 @@ use Rattle.lists.proofs.WriteLaws.{overwrite-front}
 use Rattle.rows.specs.Rows.{Yard, rowCount, Fresh, Sized}
 use Rattle.rows.proofs.RowLaws.{sized-within}
 use Rattle.blocks.specs.State.{State}
-use Rattle.blocks.specs.Method.{built, deadlockLoop, deadlockPairs}
+use Rattle.blocks.specs.Loop.{shownWidth}
+use Rattle.blocks.specs.Method.{built, deadlockLoop, deadlockRows}
 use Rattle.blocks.specs.Question.{allYes, firstNo, asksRoom}
 use Rattle.blocks.specs.Answer.{tested, written}
 use Rattle.blocks.specs.Demands.{Shown}
@@ -19,7 +20,7 @@ use Rattle.blocks.specs.Length.{Lengths, AcceptedWith}
 use Rattle.blocks.specs.With.{problemQuestionsWith, deadlockQuestionsWith, DeadlockRefusedWith, deadlockAnswerWith, deadlockSpaceWith}
 use Rattle.blocks.proofs.QuestionLaws.{sentence-append}
 use Rattle.blocks.proofs.WithLaws.{problem-yes, deadlock-refuses, deadlock-refusal, deadlock-accepts, deadlock-none, as-before}
-use Rattle.blocks.proofs.DeadlockTestLaws.{pairs-length}
+use Rattle.blocks.proofs.DeadlockTestLaws.{rows-length}
 use Rattle.blocks.proofs.Theorems.{theorems}
 use Rattle.problem.specs.declared.Checked as case
 use Rattle.lengths.specs.Checks.{ExaminesWith}
@@ -55,7 +56,7 @@ refusal {ls} {s} {g} {space} k p r =
 
 -- a checked problem with room
 pub seekable : {ls : Lengths} {s g : State} {space : List ℕ} {c : case.Checked} {y y′ : Yard} → ExaminesWith ls s g c y y′ → c ≡ case.the-variants.Accepted
-    → Sized y → Fresh rowCount y → 2 * length s ≤ length space → Seekable s g y′ space
+    → Sized y → Fresh rowCount y → shownWidth * length s ≤ length space → Seekable s g y′ space
 seekable w d z f h =
     record { problem = accepted (w .checks) d .accepted; sized = sized-within z (w .within); start = w .known d; visits = unvisited f (examined w d); room = h }
 
@@ -68,13 +69,13 @@ module _ {ls : Lengths} {s g : State} (space : List ℕ) {c : case.Checked} {y y
     accept : AcceptedWith ls s g
     accept = accepted (w .checks) e
 
-    pub room-way : length space < 2 * length s → TestsDeadlockWith ls s g space (Refused 10 0) space
+    pub room-way : length space < shownWidth * length s → TestsDeadlockWith ls s g space (Refused 10 0) space
     unfolding deadlockQuestionsWith asksRoom
     room-way h =
         let first = sentence-append (problemQuestionsWith ls s g) _ 10 0 .1 in
         refusal 10 0 (first (inr (problem-yes ls s g .1 accept, inl (refl, (refl, λ l. omega arith)))))
 
-    module _ (h : 2 * length s ≤ length space) {a : Tested} {space′ : List ℕ} (f : Finds s g space a space′) where
+    module _ (h : shownWidth * length s ≤ length space) {a : Tested} {space′ : List ℕ} (f : Finds s g space a space′) where
       u : Sought s g space (f .count) space′
       u = f .sought
 
@@ -87,7 +88,7 @@ module _ {ls : Lengths} {s g : State} (space : List ℕ) {c : case.Checked} {y y
 
       lent : space′ ≡ deadlockSpaceWith ls s g space
       unfolding deadlockSpaceWith
-      lent = u .written ∙ sym (ap (λ a. written a (deadlockPairs s g) space) yes)
+      lent = u .written ∙ sym (ap (λ a. written a (deadlockRows s g) space) yes)
 
       -- nothing is deadlocked
       free-way : f .count ≡ 0 → TestsDeadlockWith ls s g space Free space′
@@ -102,7 +103,7 @@ module _ {ls : Lengths} {s g : State} (space : List ℕ) {c : case.Checked} {y y
 
       -- the blocks shown are
       shown-way : f .count ≢ 0 → TestsDeadlockWith ls s g space (Deadlocked (f .count)) space′
-      unfolding deadlockPairs
+      unfolding deadlockRows
       shown-way n =
           record {
             asked = sym yes;
@@ -111,18 +112,18 @@ module _ {ls : Lengths} {s g : State} (space : List ℕ) {c : case.Checked} {y y
             none = λ e. let y : _≡_ {A = ℕ} 0 1 = cc in absurd (omega arith);
             some = λ k e.
                 let same : f .count ≡ k = cc in
-                subst (λ j. (blocks : List ℕ) × (length blocks ≡ j) × Shown s g blocks (take (2 * j) space′)) same
+                subst (λ j. (blocks : List ℕ) × (length blocks ≡ j) × Shown s g blocks (take (shownWidth * j) space′)) same
                 (deadlockLoop s g, sym (u .count), subst (Shown s g (deadlockLoop s g)) (sym front) shown);
           }
         where
-          long : 2 * f .count ≡ length (deadlockPairs s g)
-          long = omega (arith, u .count, pairs-length (built s g) g (deadlockLoop s g))
+          long : shownWidth * f .count ≡ length (deadlockRows s g)
+          long = omega (arith, u .count, rows-length (built s g) g (deadlockLoop s g))
 
-          shown : Shown s g (deadlockLoop s g) (deadlockPairs s g)
+          shown : Shown s g (deadlockLoop s g) (deadlockRows s g)
           shown = theorems .deadlock-shown s g (accept .accepted .problem) (λ z. n (u .count ∙ z))
 
-          front : take (2 * f .count) space′ ≡ deadlockPairs s g
-          front = ap₂ (λ i l. take i l) long (u .written) ∙ overwrite-front (deadlockPairs s g) space
+          front : take (shownWidth * f .count) space′ ≡ deadlockRows s g
+          front = ap₂ (λ i l. take i l) long (u .written) ∙ overwrite-front (deadlockRows s g) space
 
       pub test-way : TestsDeadlockWith ls s g space a space′
       test-way = by (same? (f .count) 0)

@@ -5,6 +5,7 @@ use mathlib.Core.Logic.{_≢_}
 use mathlib.Core.List.{List}
 use lib.ListN.{length, take}
 use Rattle.blocks.specs.State.{State}
+use Rattle.blocks.specs.Loop.{shownWidth}
 use Rattle.blocks.specs.Question.{Asked, allYes, no′, firstNo, deadlockQuestions}
 use Rattle.blocks.specs.Answer.{DeadlockAnswer, deadlockAnswer, deadlockSpace}
 use Rattle.blocks.specs.Demands.{NoDeadlock, Shown}
@@ -27,13 +28,13 @@ askedOf Free = allYes
 askedOf (Deadlocked c) = allYes
 
 -- The deadlock test: the case, document 01's numbers, the lent space whole; and that it agrees with the definition of deadlocked at the start, no and yes alike:
--- `Free` says that no blocks are deadlocked, and the pairs of a `Deadlocked` answer, read back from the space, show blocks that are.
+-- `Free` says that no blocks are deadlocked, and the rows of a `Deadlocked` answer, read back from the space, show blocks that are.
 pub record TestsDeadlock (s g : State) (space : List ℕ) (r : Tested) (space′ : List ℕ) : Type 0 where
   pub asked : askedOf r ≡ firstNo (deadlockQuestions s g space)
   pub answer : answerOf r ≡ deadlockAnswer s g space
   pub lent : space′ ≡ deadlockSpace s g space
   pub none : r ≡ Free → NoDeadlock s g
-  pub some : (c : ℕ) → r ≡ Deadlocked c → (blocks : List ℕ) × (length blocks ≡ c) × Shown s g blocks (take (2 * c) space′)
+  pub some : (c : ℕ) → r ≡ Deadlocked c → (blocks : List ℕ) × (length blocks ≡ c) × Shown s g blocks (take (shownWidth * c) space′)
 
 -- The same with lengths.
 pub record TestsDeadlockWith (ls : Lengths) (s g : State) (space : List ℕ) (r : Tested) (space′ : List ℕ) : Type 0 where
@@ -41,7 +42,7 @@ pub record TestsDeadlockWith (ls : Lengths) (s g : State) (space : List ℕ) (r 
   pub answer : answerOf r ≡ deadlockAnswerWith ls s g space
   pub lent : space′ ≡ deadlockSpaceWith ls s g space
   pub none : r ≡ Free → NoDeadlock s g
-  pub some : (c : ℕ) → r ≡ Deadlocked c → (blocks : List ℕ) × (length blocks ≡ c) × Shown s g blocks (take (2 * c) space′)
+  pub some : (c : ℕ) → r ≡ Deadlocked c → (blocks : List ℕ) × (length blocks ≡ c) × Shown s g blocks (take (shownWidth * c) space′)
 
 -- What is found in a problem that has been checked.
 pub record Finds (s g : State) (space : List ℕ) (r : Tested) (space′ : List ℕ) : Type 0 where

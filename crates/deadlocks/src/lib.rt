@@ -1,13 +1,15 @@
 // The deadlock test (document 01, "The three methods", its last paragraph; document 000, section 2.2; document 001, section 3.2).
 ghost use mathlib.Core.Path.{_≡_};
+ghost use Prim.Native.Nat.{_+_, _*_, _<_};
+ghost use lib.ListN.{length};
 ghost use Rattle.blocks.specs.State.{State};
 ghost use Rattle.blocks.specs.Stall.{NoneReady};
-ghost use Rattle.blocks.specs.Loop.{loop, onward, blockedPairs};
+ghost use Rattle.blocks.specs.Loop.{loop, onward, blockedRows, shownWidth};
 ghost use Rattle.blocks.specs.Length.{given};
 ghost use Rattle.lists.specs.Lists.{overwrite};
 ghost use Rattle.statuses.specs.Kept.{Kept};
 ghost use Rattle.statuses.specs.declared.Mode.the-variants.{Gn2};
-ghost use Rattle.deadlocks.specs.Looks.{Shows, Showable, Lookable, Looked, Seekable, Sought};
+ghost use Rattle.deadlocks.specs.Looks.{rowAt, Shows, Showable, Lookable, Looked, Seekable, Sought};
 ghost use Rattle.deadlocks.specs.Answers.{TestsDeadlock, TestsDeadlockWith, Finds};
 use numberset::WORDS;
 use problem::Checked;
@@ -20,14 +22,17 @@ use statuses::LOOSE;
 use statuses::Mode;
 use statuses::Sets;
 
-// The answer to the deadlock test: the number and place of the first "no", or that nothing is deadlocked at the start, or how many blocks the pairs show.
+// How many numbers are written for a block.
+pub const WIDTH: usize = 3;
+
+// The answer to the deadlock test: the number and place of the first "no", or that nothing is deadlocked at the start, or how many blocks the rows show.
 pub enum Tested {
     Refused { number: u16, place: u16 },
     Free,
     Deadlocked { count: usize },
 }
 
-// Questions 2 to 10, and then whether blocks are deadlocked at the start; where some are, they are written as pairs from the front of the lent space.
+// Questions 2 to 10, and then whether blocks are deadlocked at the start; where some are, they are written as rows from the front of the lent space.
 pub fn deadlock(initial: &[u16], goal: &[u16], out: &mut [u16]) -> Tested
     ensures { λ r. ⌜ TestsDeadlock (now (initial .entry)) (now (goal .entry)) (now (out .entry)) r (now (out .exit)) ⌝ }
 {
@@ -49,7 +54,7 @@ pub fn deadlock_with(
     if let Checked::Refused { number, place } = checked {
         return Tested::Refused { number, place };
     }
-    if out.len() < 2 * initial.len() {
+    if out.len() < WIDTH * initial.len() {
         return Tested::Refused {
             number: 10,
             place: 0,
@@ -58,7 +63,7 @@ pub fn deadlock_with(
     test(initial, goal, &mut yard, out)
 }
 
-// The test of a problem that has been checked, whose rows are as the check left them, and room for the pairs.
+// The test of a problem that has been checked, with the yard as the check left it, and space for a row of each block.
 pub fn test(initial: &[u16], goal: &[u16], yard: &mut Yard, out: &mut [u16]) -> Tested
     requires { ⌜ Seekable (now initial) (now goal) (now yard) (now out) ⌝ }
     ensures { λ r. ⌜ Finds (now (initial .entry)) (now (goal .entry)) (now (out .entry)) r (now (out .exit)) ⌝ }
@@ -107,17 +112,28 @@ fn look(yard: &mut Yard, sets: &Sets, k: usize, out: &mut [u16]) -> usize
     count
 }
 
-// Writes the loop as pairs, from its lowest block on: each block, and the block through which its successor is in its way.
+// Writes the loop from its lowest block on, a row for each block: it, the block through which its successor is in its way, and where the good part of its goal
+// tower ends.
 fn show(yard: &Yard, out: &mut [u16], low: usize, count: usize)
     requires { ⌜ Showable (now yard) (now out) low count ⌝ }
-    ensures { λ r. ⌜ ((s g : State) → Shows s g (now (yard .entry)) low count → now (out .exit) ≡ overwrite (blockedPairs s g (onward s (loop s g))) (now (out .entry))) ⌝ }
+    ensures { λ r. ⌜ ((s g : State) → Shows s g (now (yard .entry)) low count → now (out .exit) ≡ overwrite (blockedRows s g (onward s (loop s g))) (now (out .entry))) ⌝ }
 {
     let mut b = low;
     let mut i = 0;
     while i < count {
         let found = towers::find(yard, b);
-        runs::write_pair(out, i, b, found.by);
+        write_row(out, i, b, found.by, found.above);
         b = found.next;
         i += 1;
     }
+}
+
+// Writes the k-th row.
+fn write_row(out: &mut [u16], k: usize, b: usize, by: usize, above: usize)
+    requires { ⌜ (shownWidth * k + 2 < length (now out)) × (b < 65536) × (by < 65536) × (above < 65536) ⌝ }
+    ensures { λ r. ⌜ now (out .exit) ≡ rowAt (now (out .entry)) k b by above ⌝ }
+{
+    out[WIDTH * k] = b as u16;
+    out[WIDTH * k + 1] = by as u16;
+    out[WIDTH * k + 2] = above as u16;
 }

@@ -5,11 +5,12 @@
 // Operation 3 plans, the third list being the method and the length of the lent space: number, place, count, misplaced, space.
 // Operation 4 tests for a deadlock, the third list being the same, its method not read: number, place, count, space.
 // The lent space holds 65535, 65534, 65533 and so on before: above every slab, and different at each place. What it holds afterwards
-// is told by the checksum of all its numbers, and then by the pairs at its front, as many as the count but at most 16.
+// is told by the checksum of all its numbers, and then by the pairs or rows at its front, as many as the count but at most 16.
 // The program ends with the input, or at a frame that is cut short, too long or of another operation.
 ghost use Prim.Native.Nat.{_≤_, _<_};
 ghost use lib.ListN.{length};
 use deadlocks::Tested;
+use deadlocks::WIDTH;
 use planner::Planned;
 use problem::Checked;
 use validator::Replayed;
@@ -172,7 +173,7 @@ fn tell_planned(planned: Planned, space: &[u16]) {
 fn tell_plan(number: u16, place: u16, count: usize, misplaced: usize, space: &[u16]) {
     tell_three(number, place, count);
     tell_more(misplaced);
-    tell_space(space, count);
+    tell_space(space, 2 * least(count, 16));
     tell_end();
 }
 
@@ -186,14 +187,14 @@ fn tell_tested(tested: Tested, space: &[u16]) {
 
 fn tell_test(number: u16, place: u16, count: usize, space: &[u16]) {
     tell_three(number, place, count);
-    tell_space(space, count);
+    tell_space(space, WIDTH * least(count, 16));
     tell_end();
 }
 
-// The checksum of the space, and the pairs at its front.
-fn tell_space(space: &[u16], count: usize) {
+// The checksum of the space, and so many numbers at its front.
+fn tell_space(space: &[u16], shown: usize) {
     tell_more(checksum(space));
-    let end = least(2 * least(count, 16), space.len());
+    let end = least(shown, space.len());
     let mut i = 0;
     while i < end {
         tell_more(lists::wide(space[i]));

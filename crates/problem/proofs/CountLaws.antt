@@ -21,7 +21,7 @@ use Rattle.blocks.specs.Tests.{misplacedᵇ, misplacedCount}
 use Rattle.blocks.specs.Question.{outsideᵇ, firstOutside}
 use Rattle.blocks.specs.Answer.{firstDifference}
 use Rattle.blocks.proofs.PositionLaws.{position-test}
-use Rattle.problem.specs.Known.{Standings, misplacedIn}
+use Rattle.problem.specs.Known.{Standings, rightIn, misplacedIn}
 
 -- ---- question 4: the entries up to i are at most n
 
@@ -94,6 +94,9 @@ module _ {st : List ℕ} {n i : ℕ} (w : Reached st n i) where
   reached-all h = scan-none (w .scanned) h
 
 -- ---- c of the blocks up to i are misplaced
+
+pub not-right : {t : Bool} (y : Yard) (b : ℕ) → t ≡ rightIn (standsOf y) b → not t ≡ misplacedIn y b
+not-right y b e = ap not e
 
 pub record Misplacing (y : Yard) (n c i : ℕ) : Type 0 where
   pub sized : 2 ≤ length y

@@ -49,12 +49,16 @@ pub record Climbable (s g : State) (y : Yard) (loads : ℕ) : Type 0 where
   pub sized : loads + 1 < length y
   pub blank : Blank (row y (loads + 1))
 
+-- Whether block b is in position, by the list that says how the blocks stand.
+abbrev pub rightIn : List ℕ → ℕ → Bool
+rightIn st b = eqb (getD st b 0) 2
+
 -- How the blocks stand. Entry b is 0 where block b does not come down to the table, else 2 in position and 1 misplaced. The table is in position.
 pub record Standings (s g : State) (st : List ℕ) : Type 0 where
   pub room : length s < length st
   pub table : getD st 0 0 ≡ 2
   pub reached : (b : ℕ) → 1 ≤ b → b ≤ length s → Reflects (Grounded s b) (not (eqb (getD st b 0) 0))
-  pub right : (b : ℕ) → 1 ≤ b → b ≤ length s → Grounded s b → Reflects (InPosition s g b) (eqb (getD st b 0) 2)
+  pub right : (b : ℕ) → 1 ≤ b → b ≤ length s → Grounded s b → Reflects (InPosition s g b) (rightIn st b)
   pub small : (b : ℕ) → 1 ≤ b → b ≤ length s → getD st b 0 ≤ 2
 
 -- The row behind that of the loads says how the blocks stand; no other row has changed.
@@ -62,9 +66,9 @@ pub record Climbed (s g : State) (loads : ℕ) (y y′ : Yard) : Type 0 where
   pub stands : Standings s g (row y′ (loads + 1))
   pub within : Within (loads + 1) (loads + 2) y y′
 
--- Whether block b is misplaced, by the row that says how the blocks stand.
+-- Whether block b is misplaced, by that row.
 abbrev pub misplacedIn : Yard → ℕ → Bool
-misplacedIn y b = not (eqb (getD (standsOf y) b 0) 2)
+misplacedIn y b = not (rightIn (standsOf y) b)
 
 -- The loads of both states, and how the blocks stand.
 pub record AtStart (s g : State) (y : Yard) : Type 0 where

@@ -9,7 +9,7 @@ ghost use Rattle.blocks.specs.State.{most};
 ghost use Rattle.blocks.specs.Question.{firstOutside};
 ghost use Rattle.blocks.specs.Answer.{firstDifference};
 ghost use Rattle.rows.specs.Rows.{Fresh};
-ghost use Rattle.problem.specs.Known.{Fillable, Filled, standsAs, Standable, Climbable, Climbed, misplacedIn, Movable, MovedTo};
+ghost use Rattle.problem.specs.Known.{Fillable, Filled, standsAs, Standable, Climbable, Climbed, rightIn, misplacedIn, Movable, MovedTo};
 ghost use Rattle.problem.specs.Checked.{askedOf, Checks, faultOf, Surveyable, Surveyed, Examines};
 use rows::CHECKED;
 use rows::GOAL_LOADS;
@@ -270,7 +270,15 @@ fn is_misplaced(rows: &[[u16; ROW]], b: usize) -> bool
     requires { ⌜ (2 ≤ length (now rows)) × (b ≤ most) ⌝ }
     ensures { λ r. ⌜ r ≡ misplacedIn (now (rows .entry)) b ⌝ }
 {
-    rows[STANDS][b] != 2
+    !in_position(&rows[STANDS], b)
+}
+
+// Whether block b is in position, by the row that says how the blocks stand. No other function looks there for it.
+pub fn in_position(stands: &[u16], b: usize) -> bool
+    requires { ⌜ b < length (now stands) ⌝ }
+    ensures { λ r. ⌜ r ≡ rightIn (now (stands .entry)) b ⌝ }
+{
+    stands[b] == 2
 }
 
 // A legal move of block a to x: the state and its loads afterwards. Entry 0 of `load` takes what concerns the table, and says nothing.

@@ -1,7 +1,7 @@
 -- Document 01's whole example, and eight more, by computation. Assumes nothing.
 use mathlib.Core.Path.{refl}
 use Rattle.lists.specs.Search.{lowest, count}
-use Rattle.blocks.specs.Tests.{load, clearᵇ, groundedᵇ, agreesᵇ, inPositionᵇ, misplacedᵇ, waitingᵇ, readyᵇ, perchedᵇ, misplacedCount}
+use Rattle.blocks.specs.Tests.{load, clearᵇ, groundedᵇ, agreesᵇ, position, inPositionᵇ, misplacedᵇ, waitingᵇ, readyᵇ, perchedᵇ, misplacedCount}
 use Rattle.blocks.specs.Method.{iterate, fuel, lowestPerched, lowestReady, solving, outcome, planOutcome}
 use Rattle.blocks.specs.Question.{asksMethod, asksSize, asksSame, outsideᵇ, firstOutside, asksOutside, sharedᵇ, firstShared, asksShared}
 use Rattle.blocks.specs.Question.{floatingᵇ, firstFloating, asksFloating, asksRoom, asksPlan, stateQuestions, problemQuestions}
@@ -14,7 +14,7 @@ use Rattle.responder.specs.Responses.{asksNows, asksGoals, asksLengthRec
 use Rattle.responder.specs.Example.{Examples}
 
 pub examples : Examples
-unfolding lowest count load clearᵇ groundedᵇ agreesᵇ inPositionᵇ misplacedᵇ waitingᵇ readyᵇ perchedᵇ misplacedCount iterate fuel lowestPerched
+unfolding lowest count load clearᵇ groundedᵇ agreesᵇ position inPositionᵇ misplacedᵇ waitingᵇ readyᵇ perchedᵇ misplacedCount iterate fuel lowestPerched
     lowestReady solving outcome asksMethod asksSize asksSame outsideᵇ firstOutside asksOutside sharedᵇ firstShared asksShared floatingᵇ firstFloating
     asksFloating asksRoom asksPlan stateQuestions problemQuestions fitsᵇ asksLengths overhangsᵇ firstOverhang asksOverhang overhangQuestions lengthQuestions
     problemQuestionsWith planOutcome planQuestionsWith planAnswerWith marks markOf hasRecord fieldOf recordAt entriesAt recordBytes headAt asksNows asksGoals

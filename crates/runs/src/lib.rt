@@ -55,7 +55,7 @@ fn step(
 }
 
 // Writes the k-th pair.
-pub fn write_pair(out: &mut [u16], k: usize, a: usize, x: usize)
+fn write_pair(out: &mut [u16], k: usize, a: usize, x: usize)
     requires { ⌜ (2 * k + 1 < length (now out)) × (a < 65536) × (x < 65536) ⌝ }
     ensures { λ r. ⌜ now (out .exit) ≡ set (set (now (out .entry)) (2 * k) a) (2 * k + 1) x ⌝ }
 {

@@ -13,6 +13,7 @@ use Rattle.blocks.specs.State.{State, support}
 use Rattle.blocks.specs.Tests.{load, clearᵇ, inPositionᵇ, misplacedᵇ, waitingᵇ, perchedᵇ, readyᵇ}
 use Rattle.blocks.proofs.StateLaws.{support-at}
 use Rattle.blocks.proofs.PositionLaws.{position-test, position-table}
+use Rattle.problem.specs.Known.{rightIn, misplacedIn}
 use Rattle.towers.specs.Linked.{Known}
 use Rattle.statuses.specs.Modes.{walksᵇ, looseᵇ}
 use Rattle.statuses.specs.Reads.{Readable, waitsIn, perchedIn, targetIn, readyIn, looseIn}
@@ -20,13 +21,15 @@ use Rattle.statuses.specs.declared.Mode.{Mode}
 
 -- ---- the code
 
-pub waits-not : (y : Yard) (b : ℕ) → getD (standsOf y) b 0 ≢ 1 → false ≡ waitsIn y b
-unfolding waitsIn
-waits-not y b n = ap (λ t. t && eqb (getD (loadsOf y) b 0) 0) (sym (ne-eqb (getD (standsOf y) b 0) 1 n))
+-- r is what the row says of in position
+module _ {r : Bool} (y : Yard) (b : ℕ) (e : r ≡ rightIn (standsOf y) b) where
+  pub waits-not : r ≡ true → false ≡ waitsIn y b
+  unfolding waitsIn
+  waits-not h = ap (λ t. not t && eqb (getD (loadsOf y) b 0) 0) (sym h ∙ e)
 
-pub waits-at : (y : Yard) (b : ℕ) → getD (standsOf y) b 0 ≡ 1 → eqb (getD (loadsOf y) b 0) 0 ≡ waitsIn y b
-unfolding waitsIn
-waits-at y b e = ap (λ t. t && eqb (getD (loadsOf y) b 0) 0) (sym (eq-eqb (getD (standsOf y) b 0) 1 e))
+  pub waits-at : r ≡ false → eqb (getD (loadsOf y) b 0) 0 ≡ waitsIn y b
+  unfolding waitsIn
+  waits-at h = ap (λ t. not t && eqb (getD (loadsOf y) b 0) 0) (sym h ∙ e)
 
 -- the table stands in position, so what waits is a block
 waits-block : (y : Yard) (b : ℕ) → getD (standsOf y) 0 0 ≡ 2 → waitsIn y b ≡ true → 1 ≤ b
@@ -36,8 +39,8 @@ waits-block y b table e = by (same? b 0)
     by : (b ≡ 0) ⊎ (¬ (b ≡ 0)) → 1 ≤ b
     by (inr n) = omega (arith, n)
     by (inl z) =
-        let off : eqb (getD (standsOf y) b 0) 1 ≡ false = ne-eqb (getD (standsOf y) b 0) 1 (λ q. omega (arith, ap (λ k. getD (standsOf y) k 0) (sym z) ∙ q)) in
-        let clash : _≡_ {A = Bool} false true = ap (λ t. t && eqb (getD (loadsOf y) b 0) 0) (sym off) ∙ e in
+        let on : rightIn (standsOf y) b ≡ true = eq-eqb (getD (standsOf y) b 0) 2 (ap (λ k. getD (standsOf y) k 0) z ∙ table) in
+        let clash : _≡_ {A = Bool} false true = ap (λ t. not t && eqb (getD (loadsOf y) b 0) 0) (sym on) ∙ e in
         absurd (mathlib.Core.Bool.false≢true clash)
 
 module _ {s : State} {y : Yard} {b : ℕ} (w : Readable s y b) where
@@ -70,26 +73,28 @@ module _ {s : State} {y : Yard} {b : ℕ} (w : Readable s y b) where
 
       -- x is what was read as b's support
       module _ {x : ℕ} (f : x ≡ getD s (b - 1) 0) where
-        pub target-in : x < rowSize
-        target-in = omega (arith, f, w .entries (b - 1), w .small)
-
         pub target-load : x < length (loadsOf y)
         target-load = omega (arith, f, w .entries (b - 1), w .small, w .sized .rooms 0 (omega arith))
 
-        pub target-off : getD (standsOf y) x 0 ≢ 2 → false ≡ readyIn s y b
-        unfolding readyIn targetIn
-        target-off m =
-            ap (λ t. t && not (not (eqb x 0) && not (eqb (getD (loadsOf y) x 0) 0))) (sym (ne-eqb (getD (standsOf y) x 0) 2 m))
-            ∙ ap (targetIn y) f
-            ∙ ap (λ t. t && targetIn y (getD s (b - 1) 0)) (sym waits)
+        pub target-stand : x < length (standsOf y)
+        target-stand = omega (arith, f, w .entries (b - 1), w .small, w .sized .rooms 1 (omega arith))
 
-        pub target-at : {t : Bool} → t ≡ (not (eqb x 0) && not (eqb (getD (loadsOf y) x 0) 0)) → getD (standsOf y) x 0 ≡ 2 → not t ≡ readyIn s y b
-        unfolding readyIn targetIn
-        target-at {t} h m =
-            ap not h
-            ∙ ap (λ u. u && not (not (eqb x 0) && not (eqb (getD (loadsOf y) x 0) 0))) (sym (eq-eqb (getD (standsOf y) x 0) 2 m))
-            ∙ ap (targetIn y) f
-            ∙ ap (λ u. u && targetIn y (getD s (b - 1) 0)) (sym waits)
+        -- v is what the row says of it in position
+        module _ {v : Bool} (on : v ≡ rightIn (standsOf y) x) where
+          pub target-off : not v ≡ true → false ≡ readyIn s y b
+          unfolding readyIn targetIn
+          target-off m =
+              ap (λ t. t && not (not (eqb x 0) && not (eqb (getD (loadsOf y) x 0) 0))) (sym (not-true v m) ∙ on)
+              ∙ ap (targetIn y) f
+              ∙ ap (λ t. t && targetIn y (getD s (b - 1) 0)) (sym waits)
+
+          pub target-at : {t : Bool} → t ≡ (not (eqb x 0) && not (eqb (getD (loadsOf y) x 0) 0)) → not v ≡ false → not t ≡ readyIn s y b
+          unfolding readyIn targetIn
+          target-at {t} h m =
+              ap not h
+              ∙ ap (λ u. u && not (not (eqb x 0) && not (eqb (getD (loadsOf y) x 0) 0))) (sym (not-false v m) ∙ on)
+              ∙ ap (targetIn y) f
+              ∙ ap (λ u. u && targetIn y (getD s (b - 1) 0)) (sym waits)
 
 -- r is whether the run walks the loop, and t what the other test answered
 module _ {r t : Bool} (k : Mode) (s : State) (y : Yard) (b : ℕ) (e : r ≡ walksᵇ k) where
@@ -116,21 +121,17 @@ not-and false true = refl
 not-and false false = refl
 
 module _ {s g : State} {y : Yard} (k : Known s g y) (b : ℕ) (high : b ≤ length s) where
-  -- what stands 2 is in position, what stands 1 is misplaced, and nothing stands otherwise
-  two-is : eqb (getD (standsOf y) b 0) 2 ≡ inPositionᵇ s g b
-  two-is = ap (λ x. eqb x 2) (k .stands .at b high) ∙ by (inPositionᵇ s g b)
+  -- the row says which blocks are in position, and which are misplaced
+  right-is : rightIn (standsOf y) b ≡ inPositionᵇ s g b
+  right-is = ap (λ x. eqb x 2) (k .stands .at b high) ∙ by (inPositionᵇ s g b)
     where
       by : (t : Bool) → eqb (cond t 2 1) 2 ≡ t
       by true = refl
       by false = refl
 
-  one-is : eqb (getD (standsOf y) b 0) 1 ≡ misplacedᵇ s g b
+  wrong-is : misplacedIn y b ≡ misplacedᵇ s g b
   unfolding misplacedᵇ
-  one-is = ap (λ x. eqb x 1) (k .stands .at b high) ∙ by (inPositionᵇ s g b)
-    where
-      by : (t : Bool) → eqb (cond t 2 1) 1 ≡ not t
-      by true = refl
-      by false = refl
+  wrong-is = ap not right-is
 
   -- the test for clear, by the row of loads
   clear-is : (eqb b 0 || eqb (getD (loadsOf y) b 0) 0) ≡ clearᵇ s b
@@ -143,7 +144,7 @@ module _ {s g : State} {y : Yard} (k : Known s g y) (b : ℕ) (high : b ≤ leng
 
   target-is : targetIn y b ≡ (clearᵇ s b && inPositionᵇ s g b)
   unfolding targetIn
-  target-is = ap₂ (λ t u. t && u) two-is (not-and (eqb b 0) (eqb (getD (loadsOf y) b 0) 0) ∙ clear-is) ∙ and-comm (inPositionᵇ s g b) (clearᵇ s b)
+  target-is = ap₂ (λ t u. t && u) right-is (not-and (eqb b 0) (eqb (getD (loadsOf y) b 0) 0) ∙ clear-is) ∙ and-comm (inPositionᵇ s g b) (clearᵇ s b)
 
 module _ {s g : State} {y : Yard} (k : Known s g y) where
   pub table-stands : getD (standsOf y) 0 0 ≡ 2
@@ -164,21 +165,24 @@ module _ {s g : State} {y : Yard} (k : Known s g y) where
         table = table-stands;
       }
 
+  table-right : {b : ℕ} → b ≡ 0 → rightIn (standsOf y) b ≡ true
+  table-right {b} z = eq-eqb (getD (standsOf y) b 0) 2 (ap (λ i. getD (standsOf y) i 0) z ∙ table-stands)
+
   table-waits : {b : ℕ} → b ≡ 0 → waitsIn y b ≡ false
   unfolding waitsIn
   table-waits {b} z =
-      ap (λ t. t && eqb (getD (loadsOf y) b 0) 0) (ne-eqb (getD (standsOf y) b 0) 1 (λ q. omega (arith, table-stands, ap (λ i. getD (standsOf y) i 0) (sym z) ∙ q)))
+      ap (λ t. not t && eqb (getD (loadsOf y) b 0) 0) (table-right z)
 
   module _ (b : ℕ) (high : b ≤ length s) where
     pub waits-is : waitsIn y b ≡ waitingᵇ s g b
     unfolding waitsIn waitingᵇ
     waits-is = by (same? b 0)
       where
-        by : (b ≡ 0) ⊎ (¬ (b ≡ 0)) → (eqb (getD (standsOf y) b 0) 1 && eqb (getD (loadsOf y) b 0) 0) ≡ (misplacedᵇ s g b && clearᵇ s b)
+        by : (b ≡ 0) ⊎ (¬ (b ≡ 0)) → (misplacedIn y b && eqb (getD (loadsOf y) b 0) 0) ≡ (misplacedᵇ s g b && clearᵇ s b)
         by (inl z) =
-            let off : eqb (getD (standsOf y) b 0) 1 ≡ false = ne-eqb (getD (standsOf y) b 0) 1 (λ q. omega (arith, table-stands, ap (λ i. getD (standsOf y) i 0) (sym z) ∙ q)) in
-            ap (λ t. t && eqb (getD (loadsOf y) b 0) 0) off ∙ ap (λ t. t && clearᵇ s b) (sym off ∙ one-is k b high)
-        by (inr n) = ap₂ (λ t u. t && u) (one-is k b high) (ap (λ t. t || eqb (getD (loadsOf y) b 0) 0) (sym (ne-eqb b 0 n)) ∙ clear-is k b high)
+            let off : misplacedIn y b ≡ false = ap not (table-right z) in
+            ap (λ t. t && eqb (getD (loadsOf y) b 0) 0) off ∙ ap (λ t. t && clearᵇ s b) (sym off ∙ wrong-is k b high)
+        by (inr n) = ap₂ (λ t u. t && u) (wrong-is k b high) (ap (λ t. t || eqb (getD (loadsOf y) b 0) 0) (sym (ne-eqb b 0 n)) ∙ clear-is k b high)
 
     -- the support of a block, and of the table, which does not wait
     perched-is : perchedIn s y b ≡ perchedᵇ s g b

@@ -6,12 +6,13 @@ use lib.Dec.{eqb}
 use lib.ListN.{length, getD}
 use Rattle.rows.specs.Rows.{Yard, Sized, loadsOf, standsOf}
 use Rattle.blocks.specs.State.{State, most}
+use Rattle.problem.specs.Known.{rightIn, misplacedIn}
 use Rattle.statuses.specs.Modes.{walksᵇ}
 use Rattle.statuses.specs.declared.Mode.{Mode}
 
 -- Misplaced and clear.
 unfoldable pub waitsIn : Yard → ℕ → Bool
-waitsIn y b = eqb (getD (standsOf y) b 0) 1 && eqb (getD (loadsOf y) b 0) 0
+waitsIn y b = misplacedIn y b && eqb (getD (loadsOf y) b 0) 0
 
 -- And off the table.
 unfoldable pub perchedIn : State → Yard → ℕ → Bool
@@ -19,7 +20,7 @@ perchedIn s y b = waitsIn y b && not (eqb (getD s (b - 1) 0) 0)
 
 -- In position and clear; the table is clear.
 unfoldable pub targetIn : Yard → ℕ → Bool
-targetIn y x = eqb (getD (standsOf y) x 0) 2 && not (not (eqb x 0) && not (eqb (getD (loadsOf y) x 0) 0))
+targetIn y x = rightIn (standsOf y) x && not (not (eqb x 0) && not (eqb (getD (loadsOf y) x 0) 0))
 
 -- Misplaced and clear, with a goal support that is in position and clear.
 unfoldable pub readyIn : State → Yard → ℕ → Bool

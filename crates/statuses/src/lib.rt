@@ -232,7 +232,7 @@ fn is_ready(goal: &[u16], yard: &Yard, b: usize) -> bool
         return false;
     }
     let x = lists::wide(goal[b - 1]);
-    if yard[STANDS][x] != 2 {
+    if !problem::in_position(&yard[STANDS], x) {
         return false;
     }
     !problem::taken(&yard[LOADS], x)
@@ -265,7 +265,7 @@ fn is_waiting(yard: &Yard, b: usize) -> bool
     requires { ⌜ (length (now yard) ≡ rowCount) × (b < rowSize) ⌝ }
     ensures { λ r. ⌜ r ≡ waitsIn (now (yard .entry)) b ⌝ }
 {
-    if yard[STANDS][b] != 1 {
+    if problem::in_position(&yard[STANDS], b) {
         return false;
     }
     yard[LOADS][b] == 0

@@ -8,7 +8,7 @@ use mathlib.Core.Option.{none, some}
 use native.Mathlib.Omega.{arith}
 use lib.ListN.{length, take}
 use Rattle.blocks.specs.State.{State, most}
-use Rattle.blocks.specs.Loop.{memberᵇ}
+use Rattle.blocks.specs.Loop.{memberᵇ, shownWidth}
 use Rattle.blocks.specs.Question.{Question, numbers, problemQuestions, stateQuestions, asksMethod, asksSize, asksSame, asksOutside, asksShared, asksFloating}
 use Rattle.blocks.specs.Question.{asksRoom, asksPlan}
 use Rattle.blocks.specs.Answer.{checkAnswer, noVerdict}
@@ -163,7 +163,7 @@ deadlock-export {ls} {s} {g} {space} {r} {space′} {a} w e =
   where
     -- what an answer that is no refusal says
     says : (q : tested.Tested) → q ≡ r → a .refusal ≡ 0 → (a .count ≡ 0 → NoDeadlock s g)
-        × (a .count ≢ 0 → (blocks : List ℕ) × (length blocks ≡ a .count) × Shown s g blocks (take (2 * a .count) space′))
+        × (a .count ≢ 0 → (blocks : List ℕ) × (length blocks ≡ a .count) × Shown s g blocks (take (shownWidth * a .count) space′))
     says (tested.the-variants.Refused k p) i z =
         let same : asDeadlock a ≡ deadlocks.answerOf (tested.the-variants.Refused k p) = e ∙ ap deadlocks.answerOf (sym i) in
         let refused = with-theorems .deadlock-refuses ls s g space k p .0 (sym (w .asked) ∙ ap deadlocks.askedOf (sym i)) in

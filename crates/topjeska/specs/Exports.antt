@@ -10,6 +10,7 @@ use Rattle.blocks.specs.Position.{Accepted}
 use Rattle.blocks.specs.Move.{Solves}
 use Rattle.blocks.specs.Answer as answer
 use Rattle.blocks.specs.Answer.{moves, planAnswer, planSpace, deadlockAnswer, deadlockSpace, replayAnswer}
+use Rattle.blocks.specs.Loop.{shownWidth}
 use Rattle.blocks.specs.Method.{methodOf, Method}
 use Rattle.blocks.specs.Steps.{By}
 use Rattle.blocks.specs.Demands.{HeadCount, Promise, NoDeadlock, Shown}
@@ -73,19 +74,19 @@ pub record ExportsPanel (m : ℕ) (s g : State) (space : List ℕ) (r : PlanAnsw
   pub small : r .refusal ≡ 0 → length s ≤ panelMost
 
 -- The deadlock test: the answer that the definition gives, the lent space whole; count 0 says that no blocks are deadlocked at the start, another count
--- that the pairs show blocks that are.
+-- that the rows show blocks that are.
 pub record ExportsDeadlock (s g : State) (space : List ℕ) (r : DeadlockAnswer) (space′ : List ℕ) : Type 0 where
   pub answer : asDeadlock r ≡ deadlockAnswer s g space
   pub lent : space′ ≡ deadlockSpace s g space
   pub free : r .refusal ≡ 0 → r .count ≡ 0 → NoDeadlock s g
-  pub shown : r .refusal ≡ 0 → r .count ≢ 0 → (blocks : List ℕ) × (length blocks ≡ r .count) × Shown s g blocks (take (2 * r .count) space′)
+  pub shown : r .refusal ≡ 0 → r .count ≢ 0 → (blocks : List ℕ) × (length blocks ≡ r .count) × Shown s g blocks (take (shownWidth * r .count) space′)
 
 -- The same with lengths.
 pub record ExportsDeadlockWith (ls : Lengths) (s g : State) (space : List ℕ) (r : DeadlockAnswer) (space′ : List ℕ) : Type 0 where
   pub answer : asDeadlock r ≡ deadlockAnswerWith ls s g space
   pub lent : space′ ≡ deadlockSpaceWith ls s g space
   pub free : r .refusal ≡ 0 → r .count ≡ 0 → NoDeadlock s g
-  pub shown : r .refusal ≡ 0 → r .count ≢ 0 → (blocks : List ℕ) × (length blocks ≡ r .count) × Shown s g blocks (take (2 * r .count) space′)
+  pub shown : r .refusal ≡ 0 → r .count ≢ 0 → (blocks : List ℕ) × (length blocks ≡ r .count) × Shown s g blocks (take (shownWidth * r .count) space′)
 
 -- Replay: the answer that the definition gives; verdict 0 says that the lists are a sheet, and that every lift of the list is legal and its end is the goal.
 pub record ExportsReplay (s g : State) (lifts : List ℕ) (r : ReplayAnswer) : Type 0 where

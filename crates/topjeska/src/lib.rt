@@ -136,7 +136,7 @@ pub extern "C" fn topjeska_plan_with(
     plan_numbers(planner::plan_up_to(limit, method, initial, goal, measured, lengths, out))
 }
 
-// The deadlock test: the pairs are written from the front of the lent space; count 0 says that nothing is deadlocked.
+// The deadlock test: the rows are written from the front of the lent space; count 0 says that nothing is deadlocked.
 #[no_mangle]
 pub extern "C" fn topjeska_deadlock(
     initial: &[u16],

@@ -1,8 +1,8 @@
 -- How the blocks stand after a move of a method: the moved block alone can change, and where it comes into position it is the highest so of its goal tower.
 -- Assumes nothing.
-use Prim.Native.Nat.{ℕ, zero, suc, _+_, _-_, _≤_, _<_}
+use Prim.Native.Nat.{ℕ, suc, _+_, _-_, _≤_, _<_}
 use mathlib.Core.Path.{_≡_, refl, sym, ap, _∙_, subst}
-use mathlib.Core.Logic.{_⊎_, inl, inr, _≢_}
+use mathlib.Core.Logic.{_⊎_, inl, inr, _≢_, _↔_}
 use mathlib.Core.Bool.{Bool, cond}
 use mathlib.Core.List.{List}
 use native.Mathlib.Omega.{arith}
@@ -11,33 +11,22 @@ use lib.Dec.{eqb}
 use lib.ListN.{length, getD, set, length-set}
 use lib.Seq.{getD-set-same, getD-set-other}
 use Rattle.blocks.specs.State.{State, most, Block, support, put, down}
-use Rattle.blocks.specs.Position.{Problem, InPosition, Misplaced}
+use Rattle.blocks.specs.Position.{Problem, InPosition, Misplaced, Nearest}
 use Rattle.blocks.specs.Move.{Legal, Constructive}
 use Rattle.blocks.specs.Stall.{Moves}
-use Rattle.blocks.specs.Tests.{inPositionᵇ}
-use Rattle.blocks.specs.Loop.{lastMisplaced}
+use Rattle.blocks.specs.Tests.{inPositionᵇ, nearest}
 use Rattle.lists.proofs.ReflectLaws.{Reflects, holds, fails, eqb-reflects, decided, reflects-same, to-true, to-false, leb-reflects, same?}
 use Rattle.blocks.proofs.StateLaws.{length-put, support-at, down-add}
 use Rattle.blocks.proofs.FrameLaws.{support-moved, position-frame, position-unframe, moved-clear, moved-block, problem-moved}
 use Rattle.blocks.proofs.TowerLaws.{Reaches, tower-chain, clear-beneath}
 use Rattle.blocks.proofs.PositionLaws.{position-test, position-down, position-beneath, position-moved, misplaced-block}
-use Rattle.blocks.proofs.StallLaws.{last-misplaced}
+use Rattle.blocks.proofs.NearestLaws.{nearest-is, nearest-only, nearest-alike}
 use Rattle.blocks.proofs.StepLaws.{moves-legal, moves-misplaced, moves-landed}
 use Rattle.rows.specs.Rows.{Yard, store, Sized, goalBottomsOf, highsOf, Within}
 use Rattle.rows.proofs.RowLaws.{stored, within-none, within-store}
 use Rattle.towers.specs.Towers.{bottom, Bottoms, Stands, Highs}
 use Rattle.towers.specs.Moved.{restood, Raisable, raised}
 use Rattle.towers.proofs.BottomLaws.{Base, bottom-base, bottom-same, bottom-block}
-
--- the last misplaced block depends on the positions beneath alone
-last-same : (s t g : State) (k b : ℕ) → ((j : ℕ) → inPositionᵇ t g (down g (suc j) b) ≡ inPositionᵇ s g (down g (suc j) b)) → lastMisplaced t g k b ≡ lastMisplaced s g k b
-unfolding lastMisplaced
-last-same s t g zero b h = refl
-last-same s t g (suc k) b h = by (inPositionᵇ t g (support g b)) (inPositionᵇ s g (support g b)) (h 0) (last-same s t g k (support g b) (λ j. h (suc j)))
-  where
-    by : (u v : Bool) → u ≡ v → lastMisplaced t g k (support g b) ≡ lastMisplaced s g k (support g b)
-        → cond u b (lastMisplaced t g k (support g b)) ≡ cond v b (lastMisplaced s g k (support g b))
-    by u v e r = ap (λ y. cond y b (lastMisplaced t g k (support g b))) e ∙ ap (cond v b) r
 
 module _ {s g : State} {a x : ℕ} (problem : Problem s g) (move : Moves s g a x) where
   legal : Legal s a x
@@ -59,6 +48,11 @@ module _ {s g : State} {a x : ℕ} (problem : Problem s g) (move : Moves s g a x
       by (inl e) = moves-misplaced move (subst (InPosition s g) e i)
       by (inr h) = m (position-frame legal h i)
 
+  -- c of a block beneath which a is not in the goal, or beneath which nothing has changed, is as it was
+  near-same : {b : ℕ} → Misplaced (put s a x) g b → ((j : ℕ) → InPosition s g (down g (suc j) b) ↔ InPosition (put s a x) g (down g (suc j) b))
+      → nearest s g b ≡ nearest (put s a x) g b
+  near-same {b} m alike = nearest-only (nearest-alike m alike (nearest-is problem b (was-misplaced m))) (nearest-is after b m)
+
   -- ---- the block is not where the goal has it
 
   module _ (off : x ≢ support g a) where
@@ -76,6 +70,13 @@ module _ {s g : State} {a x : ℕ} (problem : Problem s g) (move : Moves s g a x
             ∙ sym (to-false (position-test s g (problem .initial) a) (moves-misplaced move))
             ∙ ap (inPositionᵇ s g) (sym e)
 
+    position-everywhere : (c : ℕ) → InPosition s g c ↔ InPosition (put s a x) g c
+    position-everywhere c = by (same? c a)
+      where
+        by : (c ≡ a) ⊎ (¬ (c ≡ a)) → InPosition s g c ↔ InPosition (put s a x) g c
+        by (inl e) = (λ i. absurd (moves-misplaced move (subst (InPosition s g) e i)), λ i. absurd (still (subst (InPosition (put s a x) g) e i)))
+        by (inr h) = (position-frame legal h, position-unframe legal h)
+
     stands-off : {st : List ℕ} → Stands s g st → Stands (put s a x) g st
     stands-off w =
         record {
@@ -88,11 +89,7 @@ module _ {s g : State} {a x : ℕ} (problem : Problem s g) (move : Moves s g a x
         record {
           room = rw (length-put s a x) (w .room);
           at = λ b m.
-              w .at b (was-misplaced m)
-              ∙ ap (support g) (
-              sym (last-same s (put s a x) g (length s) b (λ j. same-everywhere (down g (suc j) b)))
-              ∙ ap (λ k. lastMisplaced (put s a x) g k b) (sym (length-put s a x))
-              );
+              w .at b (was-misplaced m) ∙ near-same m (λ j. position-everywhere (down g (suc j) b));
         }
 
   -- ---- the block comes into position
@@ -130,37 +127,35 @@ module _ {s g : State} {a x : ℕ} (problem : Problem s g) (move : Moves s g a x
         by (inr r) = absurd (m (subst (InPosition (put s a x) g) (position-down (put s a x) g a right (r .0) ∙ r .1) (position-beneath right (r .0))))
 
     -- then a is the first in position on the way down
-    highest : {b : ℕ} → Misplaced (put s a x) g b → bottom g b ≡ bottom g a → a ≡ support g (lastMisplaced (put s a x) g (length (put s a x)) b)
-    highest {b} m e = by (decided (leb-reflects (r .0) (f .2 .0)))
+    highest : {b : ℕ} → Misplaced (put s a x) g b → bottom g b ≡ bottom g a → a ≡ nearest (put s a x) g b
+    highest {b} m e = by (decided (leb-reflects (r .0) (f .steps)))
       where
         t : State
         t = put s a x
 
-        d : ℕ
-        d = lastMisplaced t g (length t) b
-
-        f : Misplaced t g d × InPosition t g (support g d) × Reaches g b d
-        f = last-misplaced after b m
+        f : Nearest t g b (nearest t g b)
+        f = nearest-is after b m
 
         r : Reaches g b a
         r = beneath m e
 
-        by : (r .0 ≤ f .2 .0) ⊎ (¬ (r .0 ≤ f .2 .0)) → a ≡ support g d
-        by (inl l) =
-            let j = f .2 .0 - r .0 in
-            let split : f .2 .0 ≡ j + r .0 = omega arith in
-            let under : down g j a ≡ d = ap (down g j) (sym (r .1)) ∙ sym (down-add g j (r .0) b) ∙ ap (λ i. down g i b) (sym split) ∙ f .2 .1 in
-            absurd (f .0 (subst (InPosition t g) (position-down t g a right j ∙ under) (position-beneath right j)))
+        -- a is at or above c, and nothing in position is above it
+        by : (r .0 ≤ f .steps) ⊎ (¬ (r .0 ≤ f .steps)) → a ≡ nearest t g b
+        by (inl l) = absurd (f .between (r .0) l (subst (InPosition t g) (sym (r .1)) right))
         by (inr n) =
-            let j = r .0 - suc (f .2 .0) in
-            let split : r .0 ≡ j + suc (f .2 .0) = omega (arith, n) in
-            let on : down g (suc (f .2 .0)) b ≡ support g d = Rattle.blocks.proofs.StateLaws.down-suc g (f .2 .0) b ∙ ap (support g) (f .2 .1) in
-            let above : down g j (support g d) ≡ a = ap (down g j) (sym on) ∙ sym (down-add g j (suc (f .2 .0)) b) ∙ ap (λ i. down g i b) (sym split) ∙ r .1 in
-            sym (clear-beneath t (support g d) a j (moved-clear legal) (moved-block legal) (position-down t g (support g d) (f .1) j ∙ above))
+            let j = r .0 - suc (f .steps) in
+            let split : r .0 ≡ j + suc (f .steps) = omega (arith, n) in
+            let under : down g j (nearest t g b) ≡ a =
+            ap (down g j) (sym (f .beneath)) ∙ sym (down-add g j (suc (f .steps)) b) ∙ ap (λ i. down g i b) (sym split) ∙ r .1
+            in
+            sym (clear-beneath t (nearest t g b) a j (moved-clear legal) (moved-block legal) (position-down t g (nearest t g b) (f .right) j ∙ under))
 
     -- in another goal tower nothing changes
-    apart : {b : ℕ} → Misplaced (put s a x) g b → bottom g b ≢ bottom g a → lastMisplaced (put s a x) g (length s) b ≡ lastMisplaced s g (length s) b
-    apart {b} m n = last-same s (put s a x) g (length s) b (λ j. elsewhere (down g (suc j) b) (λ e. n (bottom-same (problem .goal) (suc j, e) block-a)))
+    apart : {b : ℕ} → Misplaced (put s a x) g b → bottom g b ≢ bottom g a → nearest s g b ≡ nearest (put s a x) g b
+    apart {b} m n =
+        near-same m (λ j.
+        let off : down g (suc j) b ≢ a = λ e. n (bottom-same (problem .goal) (suc j, e) block-a) in
+        (position-frame legal off, position-unframe legal off))
 
     stands-home : {st : List ℕ} → Stands s g st → Stands (put s a x) g (set st a 2)
     stands-home {st} w = record { room = rw (length-put s a x, length-set st a 2) (w .room); at = λ b h. stand b (rw (length-put s a x) at h) (same? b a) }
@@ -183,12 +178,12 @@ module _ {s g : State} {a x : ℕ} (problem : Problem s g) (move : Moves s g a x
         inside = omega (arith, root, w .room, problem .same, bottom-block (problem .goal) block-a .high)
 
         high : (b : ℕ) → Misplaced (put s a x) g b → (bottom g b ≡ bottom g a) ⊎ (¬ (bottom g b ≡ bottom g a))
-            → getD (set hi r a) (bottom g b) 0 ≡ support g (lastMisplaced (put s a x) g (length (put s a x)) b)
+            → getD (set hi r a) (bottom g b) 0 ≡ nearest (put s a x) g b
         high b m (inl e) = ap (λ k. getD (set hi r a) k 0) (e ∙ sym root) ∙ getD-set-same hi r a 0 inside ∙ highest m e
         high b m (inr n) =
             getD-set-other hi r (bottom g b) a 0 (λ e. n (e ∙ root))
             ∙ w .at b (was-misplaced m)
-            ∙ ap (support g) (sym (apart m n) ∙ ap (λ k. lastMisplaced (put s a x) g k b) (sym (length-put s a x)))
+            ∙ apart m n
 
 -- ---- what the code reads and writes
 

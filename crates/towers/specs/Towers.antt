@@ -9,8 +9,8 @@ use lib.ListN.{length, getD}
 use Rattle.rows.specs.Rows.{Yard, row, Sized, standsOf, goalLoadsOf, goalBottomsOf, highsOf, Within}
 use Rattle.blocks.specs.State.{State, most, support}
 use Rattle.blocks.specs.Position.{Proper, Problem, Misplaced}
-use Rattle.blocks.specs.Tests.{inPositionᵇ}
-use Rattle.blocks.specs.Loop.{lastMisplaced, top}
+use Rattle.blocks.specs.Tests.{inPositionᵇ, nearest}
+use Rattle.blocks.specs.Loop.{top}
 use Rattle.problem.specs.Known.{Loads}
 
 -- The block on the table at the bottom of b's tower.
@@ -39,7 +39,7 @@ pub record Stands (s g : State) (l : List ℕ) : Type 0 where
 -- The entry of a goal tower's bottom is its highest block in position, or the table: document 01's c for every misplaced block of that tower.
 pub record Highs (s g : State) (l : List ℕ) : Type 0 where
   pub room : length s < length l
-  pub at : (b : ℕ) → Misplaced s g b → getD l (bottom g b) 0 ≡ support g (lastMisplaced s g (length s) b)
+  pub at : (b : ℕ) → Misplaced s g b → getD l (bottom g b) 0 ≡ nearest s g b
 
 -- A state whose loads a row has, and two rows for its towers.
 pub record Fillable (s : State) (y : Yard) (loads bottoms : ℕ) : Type 0 where

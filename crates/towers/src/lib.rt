@@ -1,4 +1,5 @@
-// Towers by their bottom blocks: the top of a tower, the highest block in position of a goal tower, and so the successor of a block, in constant time.
+// Towers by their bottom blocks: the top of a tower, the highest block in position of a goal tower, and so the position test and the successor of a block, in
+// constant time.
 ghost use mathlib.Core.Path.{_≡_};
 ghost use mathlib.Core.Bool.{not, _&&_, cond};
 ghost use Prim.Native.Nat.{_-_, _≤_, _<_};
@@ -7,8 +8,9 @@ ghost use lib.ListN.{length, getD};
 ghost use Rattle.rows.specs.Rows.{loadsOf, goalLoadsOf, rowSize, rowCount};
 ghost use Rattle.blocks.specs.State.{State};
 ghost use Rattle.blocks.specs.Position.{Misplaced};
+ghost use Rattle.blocks.specs.Tests.{position, nearest};
 ghost use Rattle.towers.specs.Towers.{bottom, Fillable, Filled, Climbable, Climbed};
-ghost use Rattle.towers.specs.Linked.{Linked, Findable, Found};
+ghost use Rattle.towers.specs.Linked.{Linked, positionOf, Askable, Findable, Found};
 ghost use Rattle.towers.specs.Moved.{Shifting, Shifted, restood, Raisable, raised};
 ghost use Rattle.towers.specs.Walks.{Standing, Markable, Marked, Descending, FirstRight};
 use rows::BOTTOMS;
@@ -20,8 +22,15 @@ use rows::STANDS;
 use rows::TOPS;
 use rows::Yard;
 
-// What is in a block's way, and the block to move first: its successor.
+// How a block stands: in position, or misplaced above c, the nearest block beneath it in its goal tower that is in position, 0 for the table.
+pub enum Position {
+    InPosition,
+    MisplacedAbove { c: usize },
+}
+
+// Where the good part of a misplaced block's goal tower ends (c), what is in its way, and the block to move first: its successor.
 pub struct Blocked {
+    pub above: usize,
     pub by: usize,
     pub next: usize,
 }
@@ -93,7 +102,7 @@ fn first_in_position(goal: &[u16], stands: &[u16], t: usize) -> usize
     ensures { λ r. ⌜ FirstRight (now (goal .entry)) (now (stands .entry)) t r ⌝ }
 {
     let mut c = t;
-    while stands[c] != 2 {
+    while !problem::in_position(stands, c) {
         c = lists::wide(goal[c - 1]);
     }
     c
@@ -146,16 +155,41 @@ pub fn raise(goal: &[u16], yard: &mut Yard, a: usize, x: usize)
     yard[HIGHS][r] = a as u16;
 }
 
-// The successor of a misplaced block, and what is in its way, in whatever problem the rows are of.
+// The position test, in whatever problem the rows are of: the highest block in position of its goal tower is c of every misplaced block.
+pub fn position_of(yard: &Yard, b: usize) -> Position
+    requires { ⌜ Askable (now yard) b ⌝ }
+    ensures { λ r. ⌜ ((s g : State) → Linked s g (now (yard .entry)) → b ≤ length s → positionOf r ≡ position s g b) ⌝ }
+{
+    if problem::in_position(&yard[STANDS], b) {
+        return Position::InPosition;
+    }
+    let r = lists::wide(yard[GOAL_BOTTOMS][b]);
+    Position::MisplacedAbove {
+        c: lists::wide(yard[HIGHS][r]),
+    }
+}
+
+// The block that the test names, c of a misplaced block; 0 for a block in position, where it names none.
+fn nearest(yard: &Yard, b: usize) -> usize
+    requires { ⌜ Askable (now yard) b ⌝ }
+    ensures { λ r. ⌜ ((s g : State) → Linked s g (now (yard .entry)) → b ≤ length s → r ≡ nearest s g b) ⌝ }
+{
+    let position = position_of(yard, b);
+    match position {
+        Position::InPosition => 0,
+        Position::MisplacedAbove { c } => c,
+    }
+}
+
+// The successor of a misplaced block, what is in its way, and c, in whatever problem the rows are of.
 pub fn find(yard: &Yard, b: usize) -> Blocked
     requires { ⌜ Findable (now yard) b ⌝ }
     ensures { λ r. ⌜ ((s g : State) → Linked s g (now (yard .entry)) → Misplaced s g b → Found s g b r) ⌝ }
 {
-    let r = lists::wide(yard[GOAL_BOTTOMS][b]);
-    let c = lists::wide(yard[HIGHS][r]);
-    let by = in_the_way(yard, r, c);
+    let above = nearest(yard, b);
+    let by = in_the_way(yard, lists::wide(yard[GOAL_BOTTOMS][b]), above);
     let next = lists::wide(yard[TOPS][lists::wide(yard[BOTTOMS][by])]);
-    Blocked { by, next }
+    Blocked { above, by, next }
 }
 
 // c where something rests on it, else what rests on c in the goal: for the table that is r, the bottom of the goal tower asked for.

@@ -6,10 +6,11 @@ use topjeska::{
 };
 
 fn main() -> Result<(), ReplayError> {
-    let sheets: [(&str, &[u16], &[u16]); 3] = [
+    let sheets: [(&str, &[u16], &[u16]); 4] = [
         ("S2", &[2, 0], &[0, 1]),
         ("S4", &[2, 0, 4, 0], &[4, 0, 2, 0]),
         ("S5", &[2, 3, 0, 5, 0], &[5, 0, 0, 3, 2]),
+        ("grows", &[2, 0, 0, 0], &[2, 4, 0, 3]),
     ];
     for (name, now, goal) in sheets {
         show(name, now, goal)?;
@@ -81,11 +82,11 @@ fn show_panel() {
     }
 }
 
-/// Pairs, each with a space before it.
-fn listed(pairs: &[[u16; 2]], between: &str) -> String {
-    if pairs.is_empty() {
+/// Groups of so many numbers, each with a space before it.
+fn listed<const OF: usize>(groups: &[[u16; OF]], between: &str) -> String {
+    if groups.is_empty() {
         return " none".into();
     }
-    let text = |[a, b]: &[u16; 2]| format!(" {a}{between}{b}");
-    pairs.iter().map(text).collect::<Vec<_>>().join(",")
+    let text = |group: &[u16; OF]| format!(" {}", group.map(|x| x.to_string()).join(between));
+    groups.iter().map(text).collect::<Vec<_>>().join(",")
 }

@@ -80,11 +80,15 @@ struct Lent {
 impl Lent {
     fn new(problem: Problem, operation: Operation) -> Self {
         let n = problem.initial.len();
-        let length = if operation == Deadlock { 2 * n } else { 4 * n };
+        let length = if operation == Deadlock {
+            ffi::deadlock_room(n)
+        } else {
+            ffi::plan_space(n)
+        };
         let mut lent = Lent {
             problem,
             lengths: Vec::new(),
-            space: vec![0; 4 * n],
+            space: vec![0; ffi::plan_space(n)],
             moves: Vec::new(),
         };
         let [_, _, count, _] = lent.call(Plan(ffi::METHOD_US), Plain);

@@ -1,5 +1,5 @@
-//! Document 01 in plain Rust, with the lengths and the panel of document 02, written for speed and from the
-//! documents alone: the library is measured against it and compared with it.
+//! Document 01 in plain Rust, with the lengths, the panel and the deadlock's rows of document 02, written for speed and
+//! from the documents alone: the library is measured against it and compared with it.
 //!
 //! Blocks are numbered from 1 and 0 is the table. Every list inside has an entry 0 for the table.
 
@@ -98,7 +98,8 @@ fn plan_up_to(taken: usize, method: u16, sheet: Sheet, out: &mut [u16]) -> PlanA
     }
 }
 
-/// Writes the blocks of a deadlock, each with the block in its way, to the front of `out`.
+/// Writes the blocks of a deadlock to the front of `out`, each with the block in its way and the highest in position of
+/// its goal tower.
 pub fn deadlock(sheet: Sheet, out: &mut [u16]) -> DeadlockAnswer {
     match planner::deadlock(sheet, out) {
         Ok(count) => DeadlockAnswer {

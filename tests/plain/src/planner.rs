@@ -113,9 +113,9 @@ struct Plan<'a> {
 }
 
 impl Plan<'_> {
-    fn push(&mut self, block: u16, other: u16) {
+    fn push(&mut self, block: u16, to: u16) {
         self.out[2 * self.count] = block;
-        self.out[2 * self.count + 1] = other;
+        self.out[2 * self.count + 1] = to;
         self.count += 1;
     }
 }
@@ -232,10 +232,13 @@ fn gn2(mut yard: Yard, plan: &mut Plan) {
     }
 }
 
-/// The count of blocks on the loop where the constructive moves stall, written with what is in their way.
+/// What is written of a block on the loop: itself, what is in its way, and what its goal tower has in position.
+const ROW: usize = 3;
+
+/// The count of blocks on the loop where the constructive moves stall, a row written for each.
 pub fn deadlock(sheet: Sheet, out: &mut [u16]) -> Result<u64, Refusal> {
     let problem = Problem::read(sheet, MOST)?;
-    if out.len() < 2 * problem.n {
+    if out.len() < ROW * problem.n {
         return Err(refused(10));
     }
     let mut yard = Yard::of(problem);
@@ -252,9 +255,9 @@ pub fn deadlock(sheet: Sheet, out: &mut [u16]) -> Result<u64, Refusal> {
     let lowest = blocks.iter().enumerate().min_by_key(|&(_, block)| block);
     let lowest = lowest.map_or(0, |(i, _)| i);
     blocks.rotate_left(lowest);
-    let mut plan = Plan { out, count: 0 };
-    for &block in &blocks {
-        plan.push(block, towers.in_the_way(&yard, block));
+    for (row, &block) in out.chunks_exact_mut(ROW).zip(&blocks) {
+        let way = towers.in_the_way(&yard, block);
+        row.copy_from_slice(&[block, way, towers.built(block)]);
     }
-    Ok(plan.count as u64)
+    Ok(blocks.len() as u64)
 }

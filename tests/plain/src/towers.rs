@@ -63,13 +63,19 @@ impl Towers {
         self.highest[usize::from(self.goal_bottom[usize::from(block)])] = block;
     }
 
+    /// c of a misplaced block: the highest block in position of its goal tower, since all in position there are beneath
+    /// it; 0 for the table.
+    #[inline]
+    pub fn built(&self, block: u16) -> u16 {
+        self.highest[usize::from(self.goal_bottom[usize::from(block)])]
+    }
+
     /// The block through which its successor is in a block's way: c where c is not clear, else d.
     #[inline]
     pub fn in_the_way(&self, yard: &Yard, block: u16) -> u16 {
-        let foot = self.goal_bottom[usize::from(block)];
-        let c = self.highest[usize::from(foot)];
+        let c = self.built(block);
         if c == 0 {
-            foot
+            self.goal_bottom[usize::from(block)]
         } else if yard.load[usize::from(c)] == 0 {
             yard.goal_load[usize::from(c)]
         } else {

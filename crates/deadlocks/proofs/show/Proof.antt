@@ -17,8 +17,8 @@ loop-holds c = search (needs, writing-begin)
 find-requires : tie.Need-find-requires Inv-loop μ-loop
 find-requires c κs = search (needs, may-find)
 
-write-pair-requires : tie.Need-write-pair-requires Inv-loop μ-loop
-write-pair-requires c κs =
+write-row-requires : tie.Need-write-row-requires Inv-loop μ-loop
+write-row-requires c κs =
     let d = c .before in
     may-write (d .before .before .loop .inv) (d .before .loop-test .taken) (d .find .ensures)
 
@@ -45,7 +45,7 @@ show-spec =
     μ-loop
     loop-holds
     find-requires
-    write-pair-requires
+    write-row-requires
     add-i
     loop-less
     loop-again

@@ -7,10 +7,10 @@ use Rattle.library_cases.proofs.tell_space.Statement.{statement}
 use Rattle.library_cases.proofs.tell_space.Tie as tie
 
 abbrev Inv-loop : tie.InvT-loop
-Inv-loop space count end i₀ i = (i ≤ end) × (end ≤ length space)
+Inv-loop space shown end i₀ i = (i ≤ end) × (end ≤ length space)
 
 abbrev μ-loop : tie.MeasureT-loop
-μ-loop space count end i₀ i = end - i
+μ-loop space shown end i₀ i = end - i
 
 checksum-requires : tie.Need-checksum-requires Inv-loop μ-loop
 checksum-requires c κs = search needs
@@ -20,12 +20,6 @@ tell-more-requires c κs = search needs
 
 least-requires : tie.Need-least-requires Inv-loop μ-loop
 least-requires c κs = search needs
-
-mul-least : tie.Need-mul-least Inv-loop μ-loop
-mul-least c = search needs
-
-least-requires-2 : tie.Need-least-requires-2 Inv-loop μ-loop
-least-requires-2 c κs = search needs
 
 loop-holds : tie.Need-loop-holds Inv-loop μ-loop
 loop-holds c = search needs
@@ -63,8 +57,6 @@ tell-space-spec =
     checksum-requires
     tell-more-requires
     least-requires
-    mul-least
-    least-requires-2
     loop-holds
     mul-wide
     shared-slice-read-wide

@@ -1,7 +1,6 @@
 -- A number that waits is a block, so its goal support can be read, and how that stands and what rests on it decide. Assumes nothing.
 use borrow.Author.Needs.{needs}
-use Rattle.rows.proofs.RowLaws.{scaled}
-use Rattle.statuses.proofs.TestLaws.{read-in, ready-not, block-low, entry-within, target-in, target-load, target-off, target-at}
+use Rattle.statuses.proofs.TestLaws.{read-in, ready-not, block-low, entry-within, target-stand, target-load, target-off, target-at}
 use Rattle.statuses.proofs.is_ready.Statement.{statement}
 use Rattle.statuses.proofs.is_ready.Tie as tie
 
@@ -23,14 +22,11 @@ shared-slice-read-wide c = search (needs, entry-within)
 wide-requires : tie.Need-wide-requires
 wide-requires c κs = search needs
 
-mul-if2 : tie.Need-mul-if2
-mul-if2 c = search (needs, scaled, target-in)
+index-1-in-position : tie.Need-index-1-in-position
+index-1-in-position c = search needs
 
-index-1-if2 : tie.Need-index-1-if2
-index-1-if2 c = search needs
-
-index-2-if2 : tie.Need-index-2-if2
-index-2-if2 c = search (needs, target-in)
+in-position-requires : tie.Need-in-position-requires
+in-position-requires c κs = search (needs, target-stand)
 
 returns-2 : tie.Need-returns-2
 returns-2 c = search (needs, target-off)
@@ -40,7 +36,7 @@ index-1-taken c = search needs
 
 taken-requires : tie.Need-taken-requires
 taken-requires c κs =
-    let d = c .before .before .before .before in
+    let d = c .before .before .before .before .before .before in
     let e = d .before .before in
     target-load (e .before .before .before .pre) (e .before .is-waiting .ensures) (e .if1 .left) (d .wide .ensures)
 
@@ -57,9 +53,8 @@ is-ready-spec =
     mul-wide
     shared-slice-read-wide
     wide-requires
-    mul-if2
-    index-1-if2
-    index-2-if2
+    index-1-in-position
+    in-position-requires
     returns-2
     index-1-taken
     taken-requires

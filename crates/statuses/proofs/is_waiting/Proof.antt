@@ -4,14 +4,11 @@ use Rattle.statuses.proofs.TestLaws.{waits-not, waits-at}
 use Rattle.statuses.proofs.is_waiting.Statement.{statement}
 use Rattle.statuses.proofs.is_waiting.Tie as tie
 
-mul-if1 : tie.Need-mul-if1
-mul-if1 c = search needs
+index-1-in-position : tie.Need-index-1-in-position
+index-1-in-position c = search needs
 
-index-1-if1 : tie.Need-index-1-if1
-index-1-if1 c = search needs
-
-index-2-if1 : tie.Need-index-2-if1
-index-2-if1 c = search needs
+in-position-requires : tie.Need-in-position-requires
+in-position-requires c κs = search needs
 
 returns : tie.Need-returns
 returns c = search (needs, waits-not)
@@ -32,9 +29,8 @@ pub is-waiting-spec : {M : Type 1} → statement M
 is-waiting-spec =
     tie.close
     (tie.spec
-    mul-if1
-    index-1-if1
-    index-2-if1
+    index-1-in-position
+    in-position-requires
     returns
     mul-result
     index-1-result
