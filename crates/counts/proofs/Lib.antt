@@ -1,2 +1,3 @@
 pub mod WaysLaws
 pub mod TableLaws
+pub mod StepLaws

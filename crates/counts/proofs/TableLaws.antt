@@ -3,12 +3,15 @@ use mathlib.Core.Path.{_≡_, refl, ap, _∙_}
 use mathlib.Core.Logic.{_⊎_, inl, inr}
 use mathlib.Core.Bool.{Bool, true, _&&_, and-eq-true-iff}
 use mathlib.Core.List.{List}
-use Prim.Native.Nat.{ℕ, zero, suc, _+_, _-_, _*_, _/_, _≤_, _<_}
+use Prim.Native.Nat.{ℕ, zero, suc, _+_, _-_, _*_, _≤_, _<_}
 use native.Mathlib.Omega.{arith}
-use lib.Dec.{eqb, ltb}
-use lib.ListN.{getD}
-use Rattle.lists.proofs.ReflectLaws.{from-true, eqb-reflects, ltb-reflects, same?}
+use lib.Dec.{eqb, leb, ltb}
+use lib.ListN.{length}
+use Rattle.lists.specs.Search.{count}
+use Rattle.lists.proofs.ReflectLaws.{from-true, eqb-reflects, leb-reflects, ltb-reflects, same?}
 use Rattle.counts.specs.Ways.{ways, held}
+use Rattle.counts.specs.Table.{place, entry, EvenAt, EvenCounts}
+use Rattle.counts.proofs.WaysLaws.{ways-step}
 
 -- ---- a test over all pairs
 
@@ -25,40 +28,63 @@ below-at P (suc n) e i h = by (same? i n) (below-at P n (and-eq-true-iff (P n) (
     by (inl k) rest = ap P k ∙ and-eq-true-iff (P n) (below P n) .0 e .0
     by (inr k) rest = rest (omega (arith, k))
 
--- the test passes wherever n + k is at most 16
+-- the test passes wherever 2 * j + k is at most 16
 abbrev pub triangle : (ℕ → ℕ → Bool) → Bool
-triangle P = below (λ n. below (P n) (17 - n)) 17
+triangle P = below (λ j. below (P j) (17 - 2 * j)) 9
 
-pub triangle-at : (P : ℕ → ℕ → Bool) → triangle P ≡ true → (n k : ℕ) → n + k ≤ held → P n k ≡ true
-triangle-at P e n k h = below-at (P n) (17 - n) (below-at (λ m. below (P m) (17 - m)) 17 e n (omega arith)) k (omega arith)
+pub triangle-at : (P : ℕ → ℕ → Bool) → triangle P ≡ true → (j k : ℕ) → 2 * j + k ≤ held → P j k ≡ true
+triangle-at P e j k h = below-at (P j) (17 - 2 * j) (below-at (λ i. below (P i) (17 - 2 * i)) 9 e j (omega arith)) k (omega arith)
 
 -- ---- places
 
--- row after row by n, in each row by k
-abbrev pub place : ℕ → ℕ → ℕ
-place n k = n * (35 - n) / 2 + k
+pub place-below : (j k : ℕ) → 2 * j + k ≤ held → place j k < 81
+place-below j k h = from-true (ltb-reflects (place j k) 81) (triangle-at (λ i m. ltb (place i m) 81) refl j k h)
 
-pub place-below : (n k : ℕ) → n + k ≤ held → place n k < 153
-place-below n k h = from-true (ltb-reflects (place n k) 153) (triangle-at (λ m j. ltb (place m j) 153) refl n k h)
+-- the row of a place: of the rows 1 to 8 as many begin there or before
+abbrev row : ℕ → ℕ
+row i = count (λ j. leb (place j 0) i) 8
 
-pub product-below : (n k : ℕ) → n + k ≤ held → n * (35 - n) < 1024
-product-below n k h = omega (arith, place-below n k h)
+abbrev column : ℕ → ℕ
+column i = i - place (row i) 0
+
+even-at : (i : ℕ) → i < 81 → EvenAt i
+unfolding count
+even-at i h =
+    record {
+      j = row i;
+      k = column i;
+      within = from-true (leb-reflects (2 * row i + column i) held) (at-all (λ i. leb (2 * row i + column i) held) refl);
+      there = from-true (eqb-reflects (place (row i) (column i)) i) (at-all (λ i. eqb (place (row i) (column i)) i) refl);
+    }
+  where
+    at-all : (P : ℕ → Bool) → below P 81 ≡ true → P i ≡ true
+    at-all P e = below-at P 81 e i h
 
 -- ---- the rule
 
 module _ (table : List ℕ) where
-  abbrev pub entry : ℕ → ℕ → ℕ
-  entry n k = getD table (place n k) 0
+  -- the counts between two rows: one step of the rule
+  abbrev between : ℕ → ℕ → ℕ
+  between j k = entry table j (k + 1) + (2 * j + k) * entry table j k
 
-  -- "1 when n is 0, and for n + 1 it is the count for (n, k + 1) plus (n + k) times the count for (n, k)", of the entries
+  -- "1 when n is 0, and for n + 1 it is the count for (n, k + 1) plus (n + k) times the count for (n, k)", of the entries:
+  -- two steps from each row to the next
   abbrev pub obeys : ℕ → ℕ → Bool
-  obeys zero k = eqb (entry zero k) 1
-  obeys (suc n) k = eqb (entry (suc n) k) (entry n (k + 1) + (n + k) * entry n k)
+  obeys zero k = eqb (entry table zero k) 1
+  obeys (suc j) k = eqb (entry table (suc j) k) (between j (k + 1) + (suc (2 * j) + k) * between j k)
 
-  pub carried : triangle obeys ≡ true → (n k : ℕ) → n + k ≤ held → entry n k ≡ ways n k
+  each : triangle obeys ≡ true → (j k : ℕ) → 2 * j + k ≤ held → entry table j k ≡ ways (2 * j) k
   unfolding ways
-  carried e zero k h = from-true (eqb-reflects (entry zero k) 1) (triangle-at obeys e zero k h)
-  carried e (suc n) k h =
-      from-true (eqb-reflects (entry (suc n) k) (entry n (k + 1) + (n + k) * entry n k)) (triangle-at obeys e (suc n) k h)
-      ∙ ap (λ x. x + (n + k) * entry n k) (carried e n (k + 1) (omega arith))
-      ∙ ap (λ x. ways n (k + 1) + (n + k) * x) (carried e n k (omega arith))
+  each e zero k h = from-true (eqb-reflects (entry table zero k) 1) (triangle-at obeys e zero k h)
+  each e (suc j) k h =
+      from-true
+      (eqb-reflects (entry table (suc j) k) (between j (k + 1) + (suc (2 * j) + k) * between j k))
+      (triangle-at obeys e (suc j) k h)
+      ∙ ways-step (suc (2 * j)) k (odd (each e j) (k + 1) (omega arith)) (odd (each e j) k (omega arith))
+      ∙ ap (λ n. ways n k) (let i : suc (suc (2 * j)) ≡ 2 * suc j = omega arith in i)
+    where
+      odd : ((i : ℕ) → 2 * j + i ≤ held → entry table j i ≡ ways (2 * j) i) → (i : ℕ) → suc (2 * j) + i ≤ held → between j i ≡ ways (suc (2 * j)) i
+      odd known i b = ways-step (2 * j) i (known (i + 1) (omega arith)) (known i (omega arith))
+
+  pub carried : length table ≡ 81 → triangle obeys ≡ true → EvenCounts table
+  carried l e = record { each = each e; only = λ i h. even-at i (omega (arith, l)) }

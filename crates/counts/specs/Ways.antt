@@ -8,6 +8,6 @@ unfoldable pub ways : ℕ → ℕ → ℕ
 ways zero k = 1
 ways (suc n) k = ways n (k + 1) + (n + k) * ways n k
 
--- "Hold these counts, for n + k up to 16, in a fixed table of 153 entries."
+-- The most towers whose count is answered: "for n + k up to 16". Which of these counts are held says `Table`.
 abbrev pub held : ℕ
 held = 16

@@ -1,13 +1,14 @@
-// The counts of document 02, Job 1: how many ways there are to finish a state.
+// The counts of document 02, Job 1: how many ways there are to finish a state. Half of them are held (Job 7).
 ghost use mathlib.Core.Path.{_≡_};
 ghost use Prim.Native.Nat.{_+_, _≤_};
 ghost use Rattle.counts.specs.Ways.{ways, held};
+ghost use Rattle.counts.specs.Table.{EvenCounts};
 
-// The most towers, loose and grounded together, whose count is held.
+// The most towers, loose and grounded together, whose count is answered.
 pub const HELD: usize = 16;
 
-// The counts for n loose towers and k grounded ones, row after row by n, in each row by k.
-const TABLE: [u64; 153] = [
+// The counts for n loose towers and k grounded ones where n is even, row after row by n, in each row by k.
+const TABLE: [u64; 81] = [
     1,
     1,
     1,
@@ -25,22 +26,6 @@ const TABLE: [u64; 153] = [
     1,
     1,
     1,
-    1,
-    2,
-    3,
-    4,
-    5,
-    6,
-    7,
-    8,
-    9,
-    10,
-    11,
-    12,
-    13,
-    14,
-    15,
-    16,
     3,
     7,
     13,
@@ -56,20 +41,6 @@ const TABLE: [u64; 153] = [
     183,
     211,
     241,
-    13,
-    34,
-    73,
-    136,
-    229,
-    358,
-    529,
-    748,
-    1021,
-    1354,
-    1753,
-    2224,
-    2773,
-    3406,
     73,
     209,
     501,
@@ -83,18 +54,6 @@ const TABLE: [u64; 153] = [
     25013,
     33909,
     45001,
-    501,
-    1546,
-    4051,
-    9276,
-    19081,
-    36046,
-    63591,
-    106096,
-    169021,
-    259026,
-    384091,
-    553636,
     4051,
     13327,
     37633,
@@ -106,16 +65,6 @@ const TABLE: [u64; 153] = [
     2456299,
     4010455,
     6315001,
-    37633,
-    130922,
-    394353,
-    1047376,
-    2501801,
-    5470158,
-    11109337,
-    21204548,
-    38398641,
-    66471826,
     394353,
     1441729,
     4596553,
@@ -125,14 +74,6 @@ const TABLE: [u64; 153] = [
     165625929,
     335262313,
     642451441,
-    4596553,
-    17572114,
-    58941091,
-    175721140,
-    472630861,
-    1163391958,
-    2654025319,
-    5671386136,
     58941091,
     234662231,
     824073141,
@@ -140,34 +81,36 @@ const TABLE: [u64; 153] = [
     7307593151,
     18941512731,
     45481765921,
-    824073141,
-    3405357682,
-    12470162233,
-    40864292184,
-    121247816845,
-    329604456886,
     12470162233,
     53334454417,
     202976401213,
     693347907421,
     2148321709561,
-    202976401213,
-    896324308634,
-    3535017524403,
-    12548540320876,
     3535017524403,
     16083557845279,
     65573803186921,
-    65573803186921,
-    306827170866106,
     1290434218669921,
 ];
 
-// The count for n loose towers and k grounded ones.
+// The count for n loose towers and k grounded ones: held where n is even, else by one step of the rule.
 pub fn count_of(n: usize, k: usize) -> u64
     requires { ⌜ n + k ≤ held ⌝ }
     ensures { λ r. ⌜ r ≡ ways n k ⌝ }
 {
-    let at = n * (35 - n) / 2 + k;
-    TABLE[at]
+    let half = n / 2;
+    let at = half * (18 - half) + k;
+    let table = even_counts();
+    let here = table[at];
+    if n % 2 == 0 {
+        return here;
+    }
+    let others = (2 * half + k) as u64;
+    table[at + 1] + others * here
+}
+
+// The table, and what it holds.
+fn even_counts() -> [u64; 81]
+    ensures { λ r. ⌜ EvenCounts r ⌝ }
+{
+    TABLE
 }
