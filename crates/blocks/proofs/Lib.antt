@@ -15,6 +15,7 @@ pub mod LoopToldLaws
 pub mod MeasureLaws
 pub mod RunLaws
 pub mod StepLaws
+pub mod SuccessorLaws
 pub mod MethodLaws
 pub mod DeadlockTestLaws
 pub mod DeadlockToldLaws
