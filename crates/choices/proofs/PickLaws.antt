@@ -1,21 +1,22 @@
 -- The choice of the next move from the sets: one law for each way out. Assumes nothing.
-use Prim.Native.Nat.{ℕ, zero, suc, _+_, _-_, _≤_, _<_}
+use Prim.Native.Nat.{ℕ, zero, suc, _-_, _≤_, _<_}
 use mathlib.Core.Path.{_≡_, refl, sym, ap, _∙_, subst}
 use mathlib.Core.Logic.{_≢_}
-use mathlib.Core.Bool.{Bool, true, false, not, cond, true≢false}
+use mathlib.Core.Bool.{Bool, true, false, not, true≢false}
 use mathlib.Core.List.{List}
 use native.Mathlib.Omega.{arith}
 use borrow.Author.Tests.{not-true, not-false}
 use lib.ListN.{length, getD}
-use Rattle.rows.specs.Rows.{Yard, seenOf, readyOf, looseOf, Within}
+use Rattle.rows.specs.Rows.{Yard, readyOf, looseOf, Within}
 use Rattle.rows.proofs.RowLaws.{within-none}
 use Rattle.lists.specs.Search.{lowest}
 use Rattle.lists.proofs.ReflectLaws.{Reflects, to-false, from-true, from-false}
 use Rattle.lists.proofs.SearchLaws.{lowest-ext, lowest-beyond, lowest-passes, lowest-none}
-use Rattle.blocks.specs.State.{State, most, support}
-use Rattle.blocks.specs.Position.{Problem, InPosition, Misplaced}
+use Rattle.blocks.specs.State.{State, most, support, put}
+use Rattle.blocks.specs.Position.{Problem, Misplaced}
+use Rattle.blocks.specs.Move.{Constructive}
 use Rattle.blocks.specs.Stall.{Waiting, NoneReady}
-use Rattle.blocks.specs.Tests.{perchedᵇ, waitingᵇ, misplacedCount}
+use Rattle.blocks.specs.Tests.{waitingᵇ, misplacedCount}
 use Rattle.blocks.specs.Method.{lowestReady, lowestPerched, lowestOnLoop, clearing, building, solving}
 use Rattle.blocks.proofs.StateLaws.{support-at}
 use Rattle.blocks.proofs.PositionLaws.{misplaced-block, position-table, ready-test, perched-test, waiting-test}
@@ -27,14 +28,13 @@ use Rattle.statuses.specs.Modes.{stepOf, buildsᵇ, putsDownᵇ, walksᵇ}
 use Rattle.statuses.specs.Kept.{Holds, Kept}
 use Rattle.statuses.specs.declared.Mode.{Mode}
 use Rattle.statuses.specs.declared.Mode.the-variants.{Clearing, Building, Gn1, Gn2}
+use Rattle.statuses.proofs.BeginLaws.{known-within}
 use Rattle.statuses.proofs.LooseLaws.{loose-by, perched-held, waiting-held}
-use Rattle.choices.specs.Choices.{Visits, Pickable, Chooses, Picks}
-use Rattle.choices.specs.Walks.{Starts, Walkable, LoopAt, Walked}
-use Rattle.choices.specs.Visits.{part, LowestIn}
-use Rattle.choices.specs.declared.Picked.{Picked}
-use Rattle.choices.specs.declared.Span.{Span}
+use Rattle.choices.specs.Choices.{Pickable, Picks}
+use Rattle.choices.specs.Walks.{KeptTrail, Visits, Starts, Walkable, Unlocked}
 use Rattle.choices.proofs.ChoiceLaws.{Chosen, counted, none-perched, none-waits, clear-next, build-next, build-stop, solve-build, solve-stop, solve-clear}
-use Rattle.choices.proofs.WalkLaws.{lowest-on-loop}
+use Rattle.choices.proofs.TrailLaws.{nothing-kept, visits-built}
+use Rattle.choices.proofs.WalkLaws.{linked-within}
 
 -- a set that holds a test which only blocks pass: its lowest member is the lowest block that passes
 held-lowest : {l : List ℕ} {test : ℕ → Bool} (n : ℕ) → n ≤ most → Holds l test → ((c : ℕ) → n < c → test c ≡ false) → lowest (member l) highest ≡ lowest test n
@@ -113,6 +113,13 @@ module _ {m : Mode} {s g : State} {y z : Yard} (w : Kept m s g y z) where
       by zero f o = absurd (o refl)
       by (suc i) f o = let r = ready-found problem i (sym f) in (r .legal .block .low, r .legal .block .high)
 
+  builds-at : {b x : ℕ} → b ≡ lowest (member (readyOf z)) highest → b ≢ 0 → x ≡ support g b → Constructive s g b x
+  builds-at {b} {x} e n h = by b (is-ready e) n h
+    where
+      by : (c : ℕ) → c ≡ lowestReady s g → c ≢ 0 → x ≡ support g c → Constructive s g c x
+      by zero f o k = absurd (o refl)
+      by (suc i) f o k = subst (Constructive s g (suc i)) (sym k) (ready-found problem i (sym f))
+
   -- ---- where the loop is walked the loose blocks are those that wait, and the towers are kept
 
   module _ (deep : walksᵇ m ≡ true) where
@@ -136,33 +143,34 @@ module _ {m : Mode} {s g : State} {y z : Yard} (w : Kept m s g y z) where
           from-false (waiting-test s g (problem .initial) c) (lowest-none (waitingᵇ s g) (length s) (sym (is-waiting e) ∙ q) c (k .low) (k .high)) v)
 
       -- the walk of the loop can begin at the lowest waiting block
-      pub starts : {k : ℕ} → NoneReady s g → start ≢ 0 → Visits y k → k < 65535 → Starts s g y start (k + 1)
-      starts still n v h =
-          record {
-            linked = linked;
-            stalled = still;
-            waiting = start-waits n;
-            first = is-waiting e;
-            fresh = λ b. omega (arith, v .visited b);
-            small = omega arith;
-          }
+      pub starts : NoneReady s g → start ≢ 0 → KeptTrail s g y → Starts s g y start
+      starts still n t = record { linked = linked; stalled = still; waiting = start-waits n; first = is-waiting e; trail = t }
 
 -- ---- the ways out
 
--- the number of walks still serves for one move more
-still-visits : {y : Yard} {k : ℕ} → Visits y k → Visits y (suc k)
-still-visits v = record { visited = λ b. omega (arith, v .visited b) }
-
-module _ {m : Mode} {g : State} {y z : Yard} {k : ℕ} (w : Pickable m g y z k) where
-  -- nothing has been walked
-  picks : {b x : ℕ} → ((s : State) → Kept m s g y z → Chosen (stepOf m g s) s g b x) → Picks m g z k (record { block = b; dest = x }) y y
-  picks f =
+module _ {m : Mode} {g : State} {y z : Yard} (w : Pickable m g y z) where
+  -- nothing has been walked; where the run walks at all, no block but a ready one is moved
+  picks : {b x : ℕ} → ((s : State) → Kept m s g y z → Chosen (stepOf m g s) s g b x)
+      → ((s : State) → Kept m s g y z → walksᵇ m ≡ true → b ≢ 0 → Constructive s g b x) → Picks m g z (record { block = b; dest = x }) y y
+  picks {b} {x} f built =
       record {
-        chooses = λ s q. let c = f s q in record { step = c .step-is; move = c .move };
-        visits = still-visits (w .visits);
-        idle = λ _. w .visits;
+        chooses = λ s q _. let c = f s q in record { step = c .step-is; move = c .move };
+        visits = λ s q v. stay s q v b (λ n deep. built s q deep n) (walksᵇ m) refl;
         within = within-none;
       }
+    where
+      stay : (s : State) → Kept m s g y z → Visits m s g y → (c : ℕ) → (c ≢ 0 → walksᵇ m ≡ true → Constructive s g c x) → (t : Bool) → walksᵇ m ≡ t
+          → Visits m (put s c x) g y
+      stay s q v zero r t e = v
+      stay s q v (suc c) r true e = visits-built (problem q) (r (λ k. absurd (omega (arith, k))) e) v
+      stay s q v (suc c) r false e = nothing-kept (v .none e)
+
+  -- it moves nothing, or does not walk
+  stops : {b x : ℕ} → b ≡ 0 → (s : State) → Kept m s g y z → walksᵇ m ≡ true → b ≢ 0 → Constructive s g b x
+  stops e s q deep n = absurd (n e)
+
+  flatly : {b x : ℕ} → walksᵇ m ≡ false → (s : State) → Kept m s g y z → walksᵇ m ≡ true → b ≢ 0 → Constructive s g b x
+  flatly off s q deep n = absurd (true≢false (sym deep ∙ off))
 
   pub ready-valid : Valid (readyOf z) × (member (readyOf z) 0 ≡ false)
   ready-valid = ready-may (w .kept)
@@ -171,9 +179,9 @@ module _ {m : Mode} {g : State} {y z : Yard} {k : ℕ} (w : Pickable m g y z k) 
   loose-valid = loose-may (w .kept)
 
   module _ {t : Bool} (e : t ≡ buildsᵇ m) where
-    pub clear-way : {b : ℕ} → not t ≡ true → b ≡ lowest (member (looseOf z)) highest → Picks m g z k (record { block = b; dest = 0 }) y y
+    pub clear-way : {b : ℕ} → not t ≡ true → b ≡ lowest (member (looseOf z)) highest → Picks m g z (record { block = b; dest = 0 }) y y
     clear-way {b} n f =
-        picks (λ s q. subst (λ step. Chosen (step g s) s g b 0) (sym (step-clears m off)) (clear-next (problem q) (is-perched q (flat m off) f)))
+        picks (λ s q. subst (λ step. Chosen (step g s) s g b 0) (sym (step-clears m off)) (clear-next (problem q) (is-perched q (flat m off) f))) (flatly (flat m off))
       where
         off : buildsᵇ m ≡ false
         off = sym e ∙ not-true t n
@@ -194,8 +202,8 @@ module _ {m : Mode} {g : State} {y z : Yard} {k : ℕ} (w : Pickable m g y z k) 
       pub ready-within : b ≢ 0 → b - 1 < length g
       ready-within o = let r = ready-block (w .kept) f o in omega (arith, r .0, r .1, w .kept .known .problem .same)
 
-      pub build-way : {x : ℕ} → b ≢ 0 → x ≡ getD g (b - 1) 0 → Picks m g z k (record { block = b; dest = x }) y y
-      build-way {x} o h = picks (λ s q. by s q m on)
+      pub build-way : {x : ℕ} → b ≢ 0 → x ≡ getD g (b - 1) 0 → Picks m g z (record { block = b; dest = x }) y y
+      build-way {x} o h = picks (λ s q. by s q m on) (λ s q _ n. builds-at q f n home)
         where
           home : x ≡ support g b
           home = h ∙ sym (support-at g b (ready-low o))
@@ -207,12 +215,12 @@ module _ {m : Mode} {g : State} {y z : Yard} {k : ℕ} (w : Pickable m g y z k) 
           by s q Gn2 i = solve-build (problem q) lowestOnLoop (is-ready q f) o home
 
       module _ (none : b ≡ 0) {u : Bool} (d : u ≡ putsDownᵇ m) where
-        pub build-end : not u ≡ true → Picks m g z k (record { block = 0; dest = 0 }) y y
-        build-end o = picks (λ s q. subst (λ step. Chosen (step g s) s g 0 0) (sym (step-builds m (sym d ∙ not-true u o))) (build-stop (problem q) (is-ready q f) none))
+        pub build-end : not u ≡ true → Picks m g z (record { block = 0; dest = 0 }) y y
+        build-end o = picks (λ s q. subst (λ step. Chosen (step g s) s g 0 0) (sym (step-builds m (sym d ∙ not-true u o))) (build-stop (problem q) (is-ready q f) none)) (stops refl)
 
         module _ (o : not u ≡ false) {low : ℕ} (l : low ≡ lowest (member (looseOf z)) highest) {v : Bool} (walks : v ≡ walksᵇ m) where
-          pub down-way : not v ≡ true → Picks m g z k (record { block = low; dest = 0 }) y y
-          down-way i = picks (λ s q. subst (λ step. Chosen (step g s) s g low 0) (sym (step-perched m on (sym d ∙ not-false u o) flat)) (by s q low (is-perched q flat l)))
+          pub down-way : not v ≡ true → Picks m g z (record { block = low; dest = 0 }) y y
+          down-way i = picks (λ s q. subst (λ step. Chosen (step g s) s g low 0) (sym (step-perched m on (sym d ∙ not-false u o) flat)) (by s q low (is-perched q flat l))) (flatly flat)
             where
               flat : walksᵇ m ≡ false
               flat = sym walks ∙ not-true v i
@@ -225,45 +233,33 @@ module _ {m : Mode} {g : State} {y z : Yard} {k : ℕ} (w : Pickable m g y z k) 
             deep : walksᵇ m ≡ true
             deep = sym walks ∙ not-false v i
 
-            pub loop-end : low ≡ 0 → Picks m g z k (record { block = 0; dest = 0 }) y y
-            loop-end r = picks (λ s q. subst (λ step. Chosen (step g s) s g 0 0) (sym (step-loop m deep)) (solve-stop (problem q) lowestOnLoop (start-none q deep l r)))
+            pub loop-end : low ≡ 0 → Picks m g z (record { block = 0; dest = 0 }) y y
+            loop-end r = picks (λ s q. subst (λ step. Chosen (step g s) s g 0 0) (sym (step-loop m deep)) (solve-stop (problem q) lowestOnLoop (start-none q deep l r))) (stops refl)
 
             module _ (some : low ≢ 0) where
-              pub walkable : Walkable y low (k + 1)
-              walkable =
+              begins : (s : State) → Kept m s g y z → Visits m s g y → Starts s g y low
+              begins s q v = starts q deep l (stalled q f none) some (v .trail)
+
+              pub walkable : Walkable y low
+              walkable = record { state = w .state; goal = g; starts = begins (w .state) (w .kept) (w .visits) }
+
+              pub loop-way : {c : ℕ} {y′ : Yard} → Unlocked low c y y′ → Picks m g z (record { block = c; dest = 0 }) y y′
+              loop-way {c} u =
                   record {
-                    state = w .state;
-                    goal = g;
-                    starts = starts (w .kept) deep l (stalled (w .kept) f none) some (w .visits) (w .count);
+                    chooses = λ s q v. let d = chosen s q v in record { step = ap (λ step. step g s) (step-loop m deep) ∙ d .step-is; move = d .move };
+                    visits = λ s q v. record { trail = u .trail s g (begins s q v); none = λ off. absurd (true≢false (sym deep ∙ off)) };
+                    within = u .within;
                   }
+                where
+                  chosen : (s : State) → Kept m s g y z → Visits m s g y → Chosen (solving lowestOnLoop g s) s g c 0
+                  chosen s q v =
+                      solve-clear (problem q) lowestOnLoop (loop-picked g) (is-ready q f) none (counted (problem q) (start-waits q deep l some .0)) (u .lowest s g (begins s q v))
 
-              module _ {r : Span} {y′ : Yard} (a : Walked low (k + 1) r y y′) where
-                looped : (s : State) → Kept m s g y z → LoopAt s g (seenOf y′) r
-                looped s q = a .loops s g (starts q deep l (stalled q f none) some (w .visits) (w .count))
-
-                pub span-within : (r .from < r .to) × (r .to ≤ length (seenOf y′))
-                span-within =
-                    let v = looped (w .state) (w .kept) in
-                    (v .ordered, omega (arith, v .within, w .kept .known .small, w .kept .known .sized .rooms 7 (omega arith), a .within .long 7))
-
-                pub loop-way : {c : ℕ} → LowestIn (part (seenOf y′) r) c → Picks m g z k (record { block = c; dest = 0 }) y y′
-                unfolding lowestOnLoop
-                loop-way {c} h =
-                    record {
-                      chooses = λ s q. let d = chosen s q in record { step = ap (λ step. step g s) (step-loop m deep) ∙ d .step-is; move = d .move };
-                      visits = record { visited = λ j. omega (arith, a .visited j) };
-                      idle = λ j.
-                          let q = w .kept in
-                          let perched = loop-picked g (w .state) (problem q) (stalled q f none) (misplaced-some (w .state) q) in
-                          absurd (perched .0 .0 (subst (InPosition (w .state) g) (sym j ∙ same (w .state) q) (position-table (w .state) g)));
-                      within = a .within;
-                    }
-                  where
-                    misplaced-some : (s : State) → Kept m s g y z → misplacedCount s g ≢ 0
-                    misplaced-some s q = counted (problem q) (start-waits q deep l some .0)
-
-                    same : (s : State) → Kept m s g y z → c ≡ lowestOnLoop s g
-                    same s q = lowest-on-loop (problem q) (stalled q f none) (start-waits q deep l some .0) (looped s q) h
-
-                    chosen : (s : State) → Kept m s g y z → Chosen (solving lowestOnLoop g s) s g c 0
-                    chosen s q = solve-clear (problem q) lowestOnLoop (loop-picked g) (is-ready q f) none (misplaced-some s q) (same s q)
+-- what is kept beside the state stays while only the rows of the walk change
+pub kept-within : {m : Mode} {s g : State} {y y′ z : Yard} → Kept m s g y z → Within 7 9 y y′ → Kept m s g y′ z
+kept-within k w =
+    record {
+      known = known-within (k .known) w (omega arith);
+      sets = k .sets;
+      towers = λ deep. linked-within (record { known = k .known; towers = k .towers deep }) w .towers;
+    }

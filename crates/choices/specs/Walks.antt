@@ -1,32 +1,58 @@
--- The walk of the loop, in the rows. Assumes nothing.
-use Prim.Native.Nat.{ℕ, _≤_, _<_}
+-- The walk of the loop, in the rows, and what is kept of it from walk to walk. Assumes nothing.
+use Prim.Native.Nat.{ℕ, suc, _≤_, _<_}
 use mathlib.Core.Path.{_≡_}
+use mathlib.Core.Bool.{false}
 use mathlib.Core.List.{List}
 use lib.ListN.{length, getD}
-use Rattle.rows.specs.Rows.{Yard, seenOf, visitsOf, Within}
+use Rattle.rows.specs.Rows.{Yard, seenOf, placesOf, Within}
 use Rattle.lists.specs.Search.{lowest}
-use Rattle.blocks.specs.State.{State}
+use Rattle.blocks.specs.State.{State, Block, Clear, put}
+use Rattle.blocks.specs.Position.{Misplaced}
 use Rattle.blocks.specs.Stall.{Waiting, NoneReady}
 use Rattle.blocks.specs.Tests.{waitingᵇ}
 use Rattle.blocks.specs.Loop.{loop}
+use Rattle.blocks.specs.Method.{lowestOnLoop}
+use Rattle.blocks.specs.Steps.{Successor}
 use Rattle.towers.specs.Linked.{Linked}
-use Rattle.choices.specs.Visits.{part}
+use Rattle.statuses.specs.Modes.{walksᵇ}
+use Rattle.statuses.specs.declared.Mode.{Mode}
+use Rattle.choices.specs.Visits.{part, keptOf}
 use Rattle.choices.specs.declared.Span.{Span}
 
--- The walk with the number m can begin: the state is stalled, the start is the lowest misplaced clear block, and no walk had that number or a higher one.
-pub record Starts (s g : State) (y : Yard) (start m : ℕ) : Type 0 where
+-- The first k blocks seen, each at its place. One that is still misplaced is clear, and is the successor of the one before it; one that is not has been
+-- brought home since it was seen.
+pub record Trail (s g : State) (seen places : List ℕ) (k : ℕ) : Type 0 where
+  pub blocks : (i : ℕ) → i < k → Block s (getD seen i 0)
+  pub placed : (i : ℕ) → i < k → getD places (getD seen i 0) 0 ≡ i
+  pub clear : (i : ℕ) → i < k → Misplaced s g (getD seen i 0) → Clear s (getD seen i 0)
+  pub follows : (i : ℕ) → suc i < k → Misplaced s g (getD seen (suc i) 0) → Successor s g (getD seen i 0) (getD seen (suc i) 0)
+
+-- What is kept of the last walk.
+abbrev pub KeptTrail : State → State → Yard → Type 0
+KeptTrail s g y = Trail s g (seenOf y) (placesOf y) (keptOf y)
+
+-- It is true of the state. A run that does not walk keeps nothing.
+pub record Visits (m : Mode) (s g : State) (y : Yard) : Type 0 where
+  pub trail : KeptTrail s g y
+  pub none : walksᵇ m ≡ false → keptOf y ≡ 0
+
+-- Nothing is kept.
+pub record Unvisited (y : Yard) : Type 0 where
+  pub none : keptOf y ≡ 0
+
+-- The walk can begin: the state is stalled, and the start is the lowest misplaced clear block.
+pub record Starts (s g : State) (y : Yard) (start : ℕ) : Type 0 where
   pub linked : Linked s g y
   pub stalled : NoneReady s g
   pub waiting : Waiting s g start
   pub first : start ≡ lowest (waitingᵇ s g) (length s)
-  pub fresh : (b : ℕ) → getD (visitsOf y) b 0 < m
-  pub small : m < 65536
+  pub trail : KeptTrail s g y
 
 -- The rows are of some problem whose loop can be walked.
-pub record Walkable (y : Yard) (start m : ℕ) : Type 0 where
+pub record Walkable (y : Yard) (start : ℕ) : Type 0 where
   pub state : State
   pub goal : State
-  pub starts : Starts state goal y start m
+  pub starts : Starts state goal y start
 
 -- The loop of a problem stands in the row of the blocks seen.
 pub record LoopAt (s g : State) (seen : List ℕ) (r : Span) : Type 0 where
@@ -34,8 +60,14 @@ pub record LoopAt (s g : State) (seen : List ℕ) (r : Span) : Type 0 where
   pub within : r .to ≤ length s
   pub found : part seen r ≡ loop s g
 
--- It has been walked, of whatever problem the rows are; no walk has a higher number, and only the rows of the walk have changed.
-pub record Walked (start m : ℕ) (r : Span) (y y′ : Yard) : Type 0 where
-  pub loops : (s g : State) → Starts s g y start m → LoopAt s g (seenOf y′) r
-  pub visited : (b : ℕ) → getD (visitsOf y′) b 0 ≤ m
+-- It has been walked, of whatever problem the rows are, and the blocks seen are a trail; only the rows of the walk have changed.
+pub record Walked (start : ℕ) (r : Span) (y y′ : Yard) : Type 0 where
+  pub loops : (s g : State) → Starts s g y start → LoopAt s g (seenOf y′) r
+  pub trail : (s g : State) → Starts s g y start → Trail s g (seenOf y′) (placesOf y′) (r .to)
+  pub within : Within 7 9 y y′
+
+-- The lowest block on the loop is found, of whatever problem the rows are, and what is kept is true of the state in which it has been put down.
+pub record Unlocked (start r : ℕ) (y y′ : Yard) : Type 0 where
+  pub lowest : (s g : State) → Starts s g y start → r ≡ lowestOnLoop s g
+  pub trail : (s g : State) → Starts s g y start → KeptTrail (put s r 0) g y′
   pub within : Within 7 9 y y′

@@ -2,11 +2,13 @@
 ghost use mathlib.Core.Path.{_≡_};
 ghost use Prim.Native.Nat.{_≤_, _<_};
 ghost use lib.ListN.{length};
+ghost use Rattle.rows.specs.Rows.{rowSize, rowCount, seenOf, placesOf};
 ghost use Rattle.choices.specs.Choices.{Pickable, Picks};
-ghost use Rattle.choices.specs.Walks.{Walkable, Walked};
-ghost use Rattle.choices.specs.Visits.{part, FirstAt, LowestIn};
+ghost use Rattle.choices.specs.Walks.{Walkable, Walked, Unlocked};
+ghost use Rattle.choices.specs.Visits.{part, LowestIn, seenIn, resumedIn, visitIn, Resumable};
+use rows::PLACES;
 use rows::SEEN;
-use rows::VISITS;
+use rows::STANDS;
 use rows::Yard;
 use statuses::LOOSE;
 use statuses::Mode;
@@ -19,11 +21,11 @@ pub struct Picked {
     pub dest: usize,
 }
 
-// The next move of a run, the k-th from 0: the lowest ready block goes home, and where none is ready a block is put down: the lowest perched one, or the lowest
-// on the loop. Clearing makes no constructive move, and building puts nothing down.
-pub fn pick(mode: Mode, goal: &[u16], yard: &mut Yard, sets: &Sets, k: usize) -> Picked
-    requires { ⌜ Pickable mode (now goal) (now yard) (now sets) k ⌝ }
-    ensures { λ r. ⌜ Picks mode (now (goal .entry)) (now (sets .entry)) k r (now (yard .entry)) (now (yard .exit)) ⌝ }
+// The next move of a run: the lowest ready block goes home, and where none is ready a block is put down: the lowest perched one, or the lowest on the loop.
+// Clearing makes no constructive move, and building puts nothing down.
+pub fn pick(mode: Mode, goal: &[u16], yard: &mut Yard, sets: &Sets) -> Picked
+    requires { ⌜ Pickable mode (now goal) (now yard) (now sets) ⌝ }
+    ensures { λ r. ⌜ Picks mode (now (goal .entry)) (now (sets .entry)) r (now (yard .entry)) (now (yard .exit)) ⌝ }
 {
     if !statuses::builds(mode) {
         return Picked {
@@ -51,11 +53,21 @@ pub fn pick(mode: Mode, goal: &[u16], yard: &mut Yard, sets: &Sets, k: usize) ->
     if low == 0 {
         return Picked { block: 0, dest: 0 };
     }
-    let span = walk(yard, low, k + 1);
     Picked {
-        block: lowest_in(&yard[SEEN], span),
+        block: unlock(yard, low),
         dest: 0,
     }
+}
+
+// The lowest block on the loop. It is to be put down, so the walk is kept up to it: what was seen before it.
+fn unlock(yard: &mut Yard, start: usize) -> usize
+    requires { ⌜ Walkable (now yard) start ⌝ }
+    ensures { λ r. ⌜ Unlocked start r (now (yard .entry)) (now (yard .exit)) ⌝ }
+{
+    let span = walk(yard, start);
+    let low = lowest_in(&yard[SEEN], span);
+    yard[PLACES][0] = yard[PLACES][low];
+    low
 }
 
 // A part of a list: from an index up to another.
@@ -64,50 +76,80 @@ pub struct Span {
     pub to: usize,
 }
 
-// Follows successors from the start until one returns; the loop is the part of the blocks seen from its first visit on. The walk has the number m.
-pub fn walk(yard: &mut Yard, start: usize, m: usize) -> Span
-    requires { ⌜ Walkable (now yard) start m ⌝ }
-    ensures { λ r. ⌜ Walked start m r (now (yard .entry)) (now (yard .exit)) ⌝ }
+// Follows successors from the start until one returns; the loop is the part of the blocks seen from its first visit on. What is kept of the last walk is not
+// walked again.
+pub fn walk(yard: &mut Yard, start: usize) -> Span
+    requires { ⌜ Walkable (now yard) start ⌝ }
+    ensures { λ r. ⌜ Walked start r (now (yard .entry)) (now (yard .exit)) ⌝ }
 {
-    let mut b = start;
-    let mut k = 0;
-    while lists::wide(yard[VISITS][b]) != m {
-        yard[VISITS][b] = m as u16;
+    let mut k = resumed(yard, start);
+    let mut b = visit(yard, start, k);
+    while !is_seen(yard, k, b) {
+        yard[PLACES][b] = k as u16;
         yard[SEEN][k] = b as u16;
         k += 1;
         b = towers::find(yard, b).next;
     }
     Span {
-        from: index_of(&yard[SEEN], b),
+        from: lists::wide(yard[PLACES][b]),
         to: k,
     }
 }
 
-// The first index of b in the list, or the list's length where b is not in it.
-fn index_of(seen: &[u16], b: usize) -> usize
-    ensures { λ r. ⌜ FirstAt (now (seen .entry)) b r ⌝ }
+// How many blocks this walk passes over: none where the last one began at another block. Of those kept, the ones that have been brought home since are the
+// last; the walk goes on at the block before them.
+fn resumed(yard: &Yard, start: usize) -> usize
+    requires { ⌜ Resumable (now yard) ⌝ }
+    ensures { λ r. ⌜ r ≡ resumedIn (now (yard .entry)) start ⌝ }
 {
-    let mut i = 0;
-    while i < seen.len() {
-        if lists::wide(seen[i]) == b {
-            return i;
-        }
-        i += 1;
+    if lists::wide(yard[SEEN][0]) != start {
+        return 0;
     }
-    i
+    let mut k = lists::wide(yard[PLACES][0]);
+    while k > 0 {
+        k -= 1;
+        if !problem::in_position(&yard[STANDS], lists::wide(yard[SEEN][k])) {
+            return k;
+        }
+    }
+    0
 }
 
-// The lowest block of a part of the list.
+// The block at which the walk then stands.
+fn visit(yard: &Yard, start: usize, k: usize) -> usize
+    requires { ⌜ (length (now yard) ≡ rowCount) × (k < rowSize) ⌝ }
+    ensures { λ r. ⌜ r ≡ visitIn (now (yard .entry)) start k ⌝ }
+{
+    if k == 0 {
+        return start;
+    }
+    lists::wide(yard[SEEN][k])
+}
+
+// Whether b is among the first k blocks seen.
+fn is_seen(yard: &Yard, k: usize, b: usize) -> bool
+    requires { ⌜ (length (now yard) ≡ rowCount) × (k ≤ rowSize) × (b < rowSize) ⌝ }
+    ensures { λ r. ⌜ r ≡ seenIn (seenOf (now (yard .entry))) (placesOf (now (yard .entry))) k b ⌝ }
+{
+    let i = lists::wide(yard[PLACES][b]);
+    if i >= k {
+        return false;
+    }
+    lists::wide(yard[SEEN][i]) == b
+}
+
+// The lowest block of a part of the list. From behind: the part's end is known before its start.
 pub fn lowest_in(seen: &[u16], span: Span) -> usize
     requires { ⌜ (span .from < span .to) × (span .to ≤ length (now seen)) ⌝ }
     ensures { λ r. ⌜ LowestIn (part (now (seen .entry)) span) r ⌝ }
 {
+    let from = span.from;
     let to = span.to;
-    let mut i = span.from;
+    let mut i = to - 1;
     let mut low = lists::wide(seen[i]);
-    while i < to {
+    while i > from {
+        i -= 1;
         low = lists::least(low, lists::wide(seen[i]));
-        i += 1;
     }
     low
 }

@@ -1,5 +1,5 @@
 -- The deadlock test as the code makes it: constructive moves until none is left come to the state that is looked at. Assumes nothing.
-use Prim.Native.Nat.{ℕ, zero, suc, _+_, _*_, _≤_, _<_}
+use Prim.Native.Nat.{ℕ, zero, suc, _*_, _≤_}
 use mathlib.Core.Path.{_≡_, refl, sym, ap, _∙_, subst}
 use mathlib.Core.Bool.{false}
 use mathlib.Core.List.{List}
@@ -16,11 +16,12 @@ use Rattle.blocks.proofs.MethodLaws.{enough}
 use Rattle.numberset.specs.Members.{member, Valid, highest}
 use Rattle.statuses.specs.Kept.{Fittable, Beginnable, Begun}
 use Rattle.statuses.specs.declared.Mode.the-variants.{Building, Gn2}
+use Rattle.choices.proofs.TrailLaws.{visits-within}
 use Rattle.choices.proofs.PickLaws as pick
 use Rattle.runs.specs.Runs.{Steppable, Finished}
 use Rattle.runs.proofs.LentLaws as lent
-use Rattle.runs.proofs.LentLaws.{twice, run-plan}
-use Rattle.deadlocks.specs.Looks.{Lookable, Looked, Seekable, Sought}
+use Rattle.runs.proofs.LentLaws.{run-plan}
+use Rattle.deadlocks.specs.Looks.{Looks, Lookable, Looked, Seekable, Sought}
 use Rattle.deadlocks.proofs.LookLaws.{nothing}
 
 -- where no constructive move is chosen, no block is ready
@@ -53,7 +54,7 @@ module _ {s g : State} {y : Yard} {out : List ℕ} (w : Seekable s g y out) wher
       unfolding built
       is-built = first .ran .end ∙ ap (endOf s) (sym (run-plan first (enough whole)))
 
-      pub still : NoneReady t g
+      still : NoneReady t g
       still = none-ready (f .ran .kept .known .problem) (f .ended)
 
       pub loose-may : Valid (looseOf z₂) × (member (looseOf z₂) 0 ≡ false)
@@ -72,17 +73,11 @@ module _ {s g : State} {y : Yard} {out : List ℕ} (w : Seekable s g y out) wher
       refittable = record { known = f .ran .kept .known; sized = f .ran .kept .sets .sized }
 
       module _ (same : length t ≡ length s) {y₃ z₃ : Yard} (q : Begun Gn2 t g t y₂ y₃ z₃) where
-        pub lookable : Lookable y₃ z₃ k out
-        lookable =
-            record {
-              state = t;
-              goal = g;
-              kept = q .kept;
-              stalled = still;
-              visits = record { visited = rw (q .within .above 8 (omega arith)) (f .ran .visits .visited) };
-              count = omega (arith, first .ran .count, first .ran .spent, twice whole, w .problem .small);
-              room = omega (arith, w .room, same);
-            }
+        looks : Looks t g y₃ z₃
+        looks = record { kept = q .kept; stalled = still; trail = visits-within (q .within) (f .ran .visits) .trail }
 
-        pub look-way : {r : ℕ} {out′ : List ℕ} → Looked t g out r out′ → Sought s g out r out′
-        look-way = sought
+        pub lookable : Lookable y₃ z₃ out
+        lookable = record { state = t; goal = g; looks = looks; room = omega (arith, w .room, same) }
+
+        pub look-way : {r : ℕ} {out′ : List ℕ} → ((i h : State) → Looks i h y₃ z₃ → Looked i h out r out′) → Sought s g out r out′
+        look-way v = sought (v t g looks)

@@ -1,5 +1,5 @@
 -- The loop of a stalled state, written as rows of three numbers; and what is lent to the test. What a run keeps are the rows of the yard. Assumes nothing.
-use Prim.Native.Nat.{ℕ, _+_, _*_, _≤_, _<_}
+use Prim.Native.Nat.{ℕ, _+_, _*_, _≤_}
 use mathlib.Core.Path.{_≡_}
 use mathlib.Core.Bool.{cond}
 use mathlib.Core.List.{List, []}
@@ -17,7 +17,7 @@ use Rattle.problem.specs.Known.{AtStart}
 use Rattle.towers.specs.Linked.{Linked}
 use Rattle.statuses.specs.Kept.{Kept}
 use Rattle.statuses.specs.declared.Mode.the-variants.{Gn2}
-use Rattle.choices.specs.Choices.{Visits}
+use Rattle.choices.specs.Walks.{KeptTrail, Unvisited}
 
 -- A list after the k-th row of three numbers was written.
 abbrev pub rowAt : List ℕ → ℕ → ℕ → ℕ → ℕ → List ℕ
@@ -42,14 +42,17 @@ pub record Showable (y : Yard) (out : List ℕ) (low count : ℕ) : Type 0 where
 abbrev pub loopOf : State → State → List ℕ
 loopOf s g = cond (eqb (misplacedCount s g) 0) [] (onward s (loop s g))
 
--- The yard is of some state in which no block is ready, and there is space for a row of each block.
-pub record Lookable (y z : Yard) (k : ℕ) (out : List ℕ) : Type 0 where
+-- The yard is of a state in which no block is ready.
+pub record Looks (s g : State) (y z : Yard) : Type 0 where
+  pub kept : Kept Gn2 s g y z
+  pub stalled : NoneReady s g
+  pub trail : KeptTrail s g y
+
+-- It is of some such state, and there is space for a row of each block.
+pub record Lookable (y z : Yard) (out : List ℕ) : Type 0 where
   pub state : State
   pub goal : State
-  pub kept : Kept Gn2 state goal y z
-  pub stalled : NoneReady state goal
-  pub visits : Visits y k
-  pub count : k < 65535
+  pub looks : Looks state goal y z
   pub room : shownWidth * length state ≤ length out
 
 -- Its loop is written from the front, and its length is answered.
@@ -62,7 +65,7 @@ pub record Seekable (s g : State) (y : Yard) (out : List ℕ) : Type 0 where
   pub problem : Accepted s g
   pub sized : Sized y
   pub start : AtStart s g y
-  pub visits : Visits y 0
+  pub visits : Unvisited y
   pub room : shownWidth * length s ≤ length out
 
 -- The deadlock of the start is written from the front, and its length is answered.

@@ -3,13 +3,10 @@ ghost use mathlib.Core.Path.{_≡_};
 ghost use Prim.Native.Nat.{_+_, _*_, _<_};
 ghost use lib.ListN.{length};
 ghost use Rattle.blocks.specs.State.{State};
-ghost use Rattle.blocks.specs.Stall.{NoneReady};
 ghost use Rattle.blocks.specs.Loop.{loop, onward, blockedRows, shownWidth};
 ghost use Rattle.blocks.specs.Length.{given};
 ghost use Rattle.lists.specs.Lists.{overwrite};
-ghost use Rattle.statuses.specs.Kept.{Kept};
-ghost use Rattle.statuses.specs.declared.Mode.the-variants.{Gn2};
-ghost use Rattle.deadlocks.specs.Looks.{rowAt, Shows, Showable, Lookable, Looked, Seekable, Sought};
+ghost use Rattle.deadlocks.specs.Looks.{rowAt, Shows, Showable, Looks, Lookable, Looked, Seekable, Sought};
 ghost use Rattle.deadlocks.specs.Answers.{TestsDeadlock, TestsDeadlockWith, Finds};
 use numberset::WORDS;
 use problem::Checked;
@@ -87,25 +84,25 @@ fn seek(initial: &[u16], goal: &[u16], yard: &mut Yard, out: &mut [u16]) -> usiz
     let mut sets = [[0u64; WORDS]; 2];
     let mut moves = [0u16; 4 * MOST];
     statuses::begin(Mode::Building, initial, goal, cur, yard, &mut sets);
-    let k = runs::run(Mode::Building, cur, goal, yard, &mut sets, &mut moves, 0);
+    runs::run(Mode::Building, cur, goal, yard, &mut sets, &mut moves, 0);
     if numberset::lowest(&sets[LOOSE]) == 0 {
         return 0;
     }
     statuses::fit(Mode::Gn2, cur, goal, yard, &mut sets);
-    look(yard, &sets, k, out)
+    look(yard, &sets, out)
 }
 
 // Writes the loop of a state in which no block is ready, from its lowest block onward; answers how many blocks it has, 0 where nothing is misplaced.
 // The test calls it only where something is perched; it does not rely on that.
-fn look(yard: &mut Yard, sets: &Sets, k: usize, out: &mut [u16]) -> usize
-    requires { ⌜ Lookable (now yard) (now sets) k (now out) ⌝ }
-    ensures { λ r. ⌜ ((s g : State) → Kept Gn2 s g (now (yard .entry)) (now (sets .entry)) → NoneReady s g → Looked s g (now (out .entry)) r (now (out .exit))) ⌝ }
+fn look(yard: &mut Yard, sets: &Sets, out: &mut [u16]) -> usize
+    requires { ⌜ Lookable (now yard) (now sets) (now out) ⌝ }
+    ensures { λ r. ⌜ ((s g : State) → Looks s g (now (yard .entry)) (now (sets .entry)) → Looked s g (now (out .entry)) r (now (out .exit))) ⌝ }
 {
     let start = numberset::lowest(&sets[LOOSE]);
     if start == 0 {
         return 0;
     }
-    let span = choices::walk(yard, start, k + 1);
+    let span = choices::walk(yard, start);
     let count = span.to - span.from;
     let low = choices::lowest_in(&yard[SEEN], span);
     show(yard, out, low, count);

@@ -22,7 +22,7 @@ use Rattle.blocks.specs.With.{planQuestionsWith, planAnswerWith, planSpaceWith}
 use Rattle.blocks.specs.WithDemands.{HeadCountWith, PromiseWith}
 use Rattle.blocks.specs.Panel.{planQuestionsUpTo, planAnswerUpTo, planSpaceUpTo}
 use Rattle.problem.specs.Known.{AtStart}
-use Rattle.choices.specs.Choices.{Visits}
+use Rattle.choices.specs.Walks.{Unvisited}
 use Rattle.statuses.specs.declared.Mode.{Mode}
 use Rattle.statuses.specs.declared.Mode.the-variants.{Clearing, Gn1, Gn2}
 use Rattle.planner.specs.declared.Planned.{Planned}
@@ -94,7 +94,7 @@ pub record Solvable (s g : State) (y : Yard) (out : List ℕ) : Type 0 where
   pub problem : Accepted s g
   pub sized : Sized y
   pub start : AtStart s g y
-  pub visits : Visits y 0
+  pub visits : Unvisited y
   pub room : 4 * length s ≤ length out
 
 -- The plan of the method is written from the front, and its length is answered.

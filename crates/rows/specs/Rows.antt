@@ -43,12 +43,12 @@ goalBottomsOf y = row y 5
 abbrev pub highsOf : Yard → List ℕ
 highsOf y = row y 6
 
--- the walk of the loop: the blocks seen, and the number of the last walk that visited each block.
+-- the walk of the loop: the blocks seen, in order, and the place of each among them. The table, which is not seen, has how many are kept.
 abbrev pub seenOf : Yard → List ℕ
 seenOf y = row y 7
 
-abbrev pub visitsOf : Yard → List ℕ
-visitsOf y = row y 8
+abbrev pub placesOf : Yard → List ℕ
+placesOf y = row y 8
 
 -- How many rows there are.
 abbrev pub rowCount : ℕ

@@ -26,7 +26,7 @@ pub const HIGHS: usize = 6;
 
 pub const SEEN: usize = 7;
 
-pub const VISITS: usize = 8;
+pub const PLACES: usize = 8;
 
 pub const ROWS: usize = 9;
 

@@ -13,10 +13,11 @@ use Rattle.blocks.specs.Method.{plan, iterate}
 use Rattle.blocks.proofs.MeasureLaws.{measure-le, misplaced-le}
 use Rattle.problem.specs.Checked.{Examines}
 use Rattle.problem.specs.declared.Checked.{Checked}
-use Rattle.statuses.specs.Modes.{stepOf, walksᵇ, looseᵇ}
+use Rattle.statuses.specs.Modes.{stepOf, walksᵇ}
 use Rattle.statuses.specs.Kept.{Kept, Begun}
 use Rattle.statuses.specs.declared.Mode.{Mode}
-use Rattle.choices.specs.Choices.{Visits}
+use Rattle.choices.specs.Walks.{Unvisited}
+use Rattle.choices.proofs.TrailLaws.{nothing-kept, unvisited-within}
 use Rattle.runs.specs.Runs.{Steppable, Finished}
 use Rattle.runs.proofs.RunningLaws.{running-end}
 
@@ -32,20 +33,20 @@ run-plan {f = f} w h = running-end (record { end = w .ran .end; reached = w .ran
 -- ---- the first run
 
 -- an accepted problem as the check leaves it; no loop has been walked
-pub first-steppable : {m : Mode} {s g t : State} {y y₁ z : Yard} {out : List ℕ} → Accepted s g → Visits y 0 → Begun m s g t y y₁ z → 4 * length s ≤ length out
+pub first-steppable : {m : Mode} {s g t : State} {y y₁ z : Yard} {out : List ℕ} → Accepted s g → Unvisited y → Begun m s g t y y₁ z → 4 * length s ≤ length out
     → Steppable m t g y₁ z out 0
 first-steppable p v b room =
     let short = twice (p .problem) in
     rw (b .state) (record {
       kept = b .kept;
-      visits = record { visited = rw (b .within .above 8 (omega arith)) (v .visited) };
+      visits = nothing-kept (unvisited-within (b .within) (omega arith) v .none);
       room = omega (arith, short, room);
       count = omega (arith, p .small, short);
     })
 
 -- the check of blank rows leaves the others blank
-pub unvisited : {s g : State} {c : Checked} {y y′ : Yard} → Fresh rowCount y → Examines s g c y y′ → Visits y′ 0
-unvisited f w = record { visited = λ b. rw (w .within .above 8 (omega arith)) (omega (arith, f .blank 8 (omega arith) .zeros .at b)) }
+pub unvisited : {s g : State} {c : Checked} {y y′ : Yard} → Fresh rowCount y → Examines s g c y y′ → Unvisited y′
+unvisited f w = unvisited-within (w .within) (omega arith) (record { none = f .blank 8 (omega arith) .zeros .at 0 })
 
 -- ---- runs that do not walk the loop keep the same beside the state
 
@@ -68,4 +69,4 @@ module _ {i j : Mode} (flat : walksᵇ i ≡ false) (flat′ : walksᵇ j ≡ fa
       }
 
   pub steps-flat : {out : List ℕ} {k : ℕ} → Steppable i s g y z out k → Steppable j s g y z out k
-  steps-flat w = record { kept = kept-flat (w .kept); visits = w .visits; room = w .room; count = w .count }
+  steps-flat w = record { kept = kept-flat (w .kept); visits = nothing-kept (w .visits .none flat); room = w .room; count = w .count }

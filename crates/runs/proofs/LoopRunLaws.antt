@@ -63,7 +63,7 @@ module _ {m : Mode} {s g : State} {k₀ : ℕ} {out₀ : List ℕ} {k : ℕ} {t 
           written = d .3 ∙ ap (λ o. set (set o (2 * k) r) (2 * k + 1) x) (w .written) ∙ pair-written out₀ (2 * k₀) (2 * k) (w .moves) r x at;
           spent = omega (arith, long, w .spent, moves-measure (w .kept .known .problem) (d .4), ap (λ u. measure u g) (d .2));
           kept = q .kept;
-          visits = record { visited = λ b. omega (arith, q .visits .visited b) };
+          visits = q .visits;
         }
 
     pub ran-falls : r ≢ 0 → measure t′ g < measure t g
@@ -82,7 +82,7 @@ module _ {m : Mode} {s g : State} {k₀ : ℕ} {out₀ : List ℕ} {k : ℕ} {t 
                 written = d .2 ∙ w .written;
                 spent = omega (arith, w .spent, ap (λ u. measure u g) (d .1));
                 kept = q .kept;
-                visits = d .3;
+                visits = q .visits;
               };
           ended = ap (stepOf m g) (d .1) ∙ d .0;
         }

@@ -43,7 +43,7 @@ fn step(
     requires { ⌜ Steppable mode (now cur) (now goal) (now yard) (now sets) (now out) k ⌝ }
     ensures { λ r. ⌜ Stepped mode (now (cur .entry)) (now (goal .entry)) (now (out .entry)) k r (now (cur .exit)) (now (yard .exit)) (now (sets .exit)) (now (out .exit)) ⌝ }
 {
-    let picked = choices::pick(mode, goal, yard, sets, k);
+    let picked = choices::pick(mode, goal, yard, sets);
     let a = picked.block;
     let x = picked.dest;
     if a == 0 {

@@ -1,6 +1,6 @@
 -- `pick` meets its contract: a law for each way out. Assumes nothing.
 use borrow.Author.Needs.{needs}
-use Rattle.choices.proofs.PickLaws.{ready-valid, loose-valid, clear-way, ready-low, ready-within, build-way, build-end, down-way, loop-end, walkable, span-within, loop-way}
+use Rattle.choices.proofs.PickLaws.{ready-valid, loose-valid, clear-way, ready-low, ready-within, build-way, build-end, down-way, loop-end, walkable, loop-way}
 use Rattle.choices.proofs.pick.Statement.{statement}
 use Rattle.choices.proofs.pick.Tie as tie
 
@@ -58,30 +58,8 @@ returns-4 c = search (needs, down-way)
 returns-5 : tie.Need-returns-5
 returns-5 c = search (needs, loop-end)
 
-add-walk : tie.Need-add-walk
-add-walk c = search needs
-
-walk-requires : tie.Need-walk-requires
-walk-requires c κs = search (needs, walkable)
-
-index-1-lowest-in : tie.Need-index-1-lowest-in
-index-1-lowest-in c = search needs
-
-lowest-in-requires : tie.Need-lowest-in-requires
-lowest-in-requires c κs =
-    let a = c .before .before in
-    let fifth = a .before .before in
-    let fourth = fifth .before in
-    let walks = fourth .before in
-    let loose = walks .before in
-    let third = loose .before .before .before in
-    let down = third .before in
-    let second = down .before in
-    let ready = second .before in
-    let first = ready .before .before .before in
-    let builds = first .before in
-    span-within (builds .before .before .pre) (builds .builds .ensures) (first .if1 .left) (ready .lowest2 .ensures) (second .if2 .left) (down .puts-down .ensures)
-    (third .if3 .left) (loose .lowest3 .ensures) (walks .walks .ensures) (fourth .if4 .left) (fifth .if5 .left) (a .walk .ensures)
+unlock-requires : tie.Need-unlock-requires
+unlock-requires c κs = search (needs, walkable)
 
 returns-6 : tie.Need-returns-6
 returns-6 c = search (needs, loop-way)
@@ -108,8 +86,5 @@ pick-spec =
     walks-requires
     returns-4
     returns-5
-    add-walk
-    walk-requires
-    index-1-lowest-in
-    lowest-in-requires
+    unlock-requires
     returns-6)

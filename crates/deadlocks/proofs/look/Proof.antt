@@ -13,9 +13,6 @@ lowest-requires c κs = search (needs, loose-may)
 returns : tie.Need-returns
 returns c = search (needs, none-way)
 
-add-walk : tie.Need-add-walk
-add-walk c = search needs
-
 walk-requires : tie.Need-walk-requires
 walk-requires c κs = search (needs, walkable)
 
@@ -48,7 +45,6 @@ look-spec =
     index-1-lowest
     lowest-requires
     returns
-    add-walk
     walk-requires
     sub-count
     index-1-lowest-in

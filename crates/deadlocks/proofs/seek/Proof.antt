@@ -3,7 +3,7 @@ use borrow.Author.Needs.{needs}
 use mathlib.Core.Path.{ap, _∙_}
 use lib.ListN.{length}
 use lib.Seq.{length-take-le}
-use Rattle.deadlocks.proofs.SeekLaws.{may-begin, first-steppable, still, loose-may, clean-way, refittable, lookable, look-way}
+use Rattle.deadlocks.proofs.SeekLaws.{may-begin, first-steppable, loose-may, clean-way, refittable, lookable, look-way}
 use Rattle.deadlocks.proofs.seek.Statement.{statement}
 use Rattle.deadlocks.proofs.seek.Tie as tie
 
@@ -62,9 +62,8 @@ returns-2 c =
     let r = f .before .before .before .before .before .before .before .before .before .before .before in
     let e = r .before .before .before .before .before .before .before in
     let w = e .before .before .before .before .before .before .before .before .pre in
-    let calm = still w (e .begin .ensures) (r .run .ensures) in
     look-way w (e .begin .ensures) (r .run .ensures) (r .run .kept .1 .0 ∙ ap length (e .begin .ensures .state))
-    (f .fit .ensures) (c .before .before .look .ensures _ _ (f .fit .ensures .kept) calm)
+    (f .fit .ensures) (c .before .before .look .ensures)
 
 pub seek-spec : {M : Type 1} → statement M
 seek-spec =
