@@ -31,7 +31,7 @@ impl Problem {
 /// A family's name and its problem of about n blocks.
 pub type Family = (&'static str, fn(usize) -> Problem);
 
-pub const FAMILIES: [Family; 13] = [
+pub const FAMILIES: [Family; 16] = [
     ("random-tall", |n| random(n, (n as f64).sqrt())),
     ("random-low", |n| random(n, n as f64 / 2.0)),
     ("reversed", reversed),
@@ -42,7 +42,10 @@ pub const FAMILIES: [Family; 13] = [
     ("ring", |n| ring(n, 2)),
     ("ring-mixed", |n| mixed(ring(n, 2))),
     ("ring-tall", |n| ring(n, 10)),
-    ("waiting", waiting),
+    ("waiting", |n| waiting(n, 2)),
+    ("waiting-mixed", |n| mixed(waiting(n, 2))),
+    ("waiting-tall", |n| waiting(n, 10)),
+    ("entered-ring", entered_ring),
     ("shifted", shifted),
     ("turned", turned),
 ];
@@ -172,19 +175,55 @@ fn ring(n: usize, height: usize) -> Problem {
     }
 }
 
-/// A quarter of the blocks wait, each for the next, in front of a tower of half of them whose top is
-/// always in its own way.
-fn waiting(n: usize) -> Problem {
-    let count = n / 4;
+/// Half of the blocks stand in towers that wait: all but the bottom of each goes, the other way up, onto the next one's
+/// bottom. The last goes onto that of a tower of the other half, whose top is always in its own way.
+fn waiting(n: usize, height: usize) -> Problem {
+    let count = n / 2 / height;
+    let block = |tower: usize, level: usize| ((height - 1 - level) * count + tower + 1) as u16;
+    let last: Vec<u16> = ((count * height + 1) as u16..=n as u16).collect();
     let mut now = Vec::new();
     let mut goal = Vec::new();
-    for wait in 1..=count {
-        now.push(vec![(count + wait) as u16, wait as u16]);
-        goal.push(vec![(count + wait + 1) as u16, wait as u16]);
+    for tower in 0..count {
+        now.push((0..height).map(|level| block(tower, level)).collect());
+        let foot = if tower + 1 < count {
+            block(tower + 1, 0)
+        } else {
+            last[0]
+        };
+        let others = (1..height).rev().map(|level| block(tower, level));
+        goal.push(std::iter::once(foot).chain(others).collect());
     }
-    let tower: Vec<u16> = (2 * count as u16 + 1..=n as u16).collect();
-    goal.push(tower[1..].to_vec());
-    now.push(tower);
+    goal.push(last[1..].to_vec());
+    now.push(last);
+    Problem {
+        initial: state(n, &now),
+        goal: state(n, &goal),
+    }
+}
+
+/// Made against the walk that method 3 keeps: a ring of towers, one of them of half the blocks, by which the walk comes
+/// in from outside. Its top is the lowest block on the loop at each stall, and stands second on the walk.
+fn entered_ring(n: usize) -> Problem {
+    let ring = n / 4;
+    let tall = n - 2 * ring - 3;
+    let start = 1;
+    let tops: Vec<u16> = (2..tall as u16 + 2).collect();
+    let foot = |tower: usize| (tall + 2 + tower) as u16;
+    let waits = |tower: usize| (tall + ring + 3 + tower) as u16;
+    let mut now = vec![vec![n as u16, start]];
+    let mut goal = vec![vec![foot(0), waits(ring - 1), start]];
+    now.push(
+        std::iter::once(foot(0))
+            .chain(tops.iter().rev().copied())
+            .collect(),
+    );
+    goal.push(std::iter::once(foot(1)).chain(tops).collect());
+    for tower in 0..ring {
+        now.push(vec![foot(tower + 1), waits(tower)]);
+        if tower + 1 < ring {
+            goal.push(vec![foot(tower + 2), waits(tower)]);
+        }
+    }
     Problem {
         initial: state(n, &now),
         goal: state(n, &goal),

@@ -1,5 +1,5 @@
-//! Measures the library beside plain Rust, and with lengths beside itself without: medians, ratios and growth, held to
-//! the budget.
+//! Measures the library beside plain Rust, with lengths beside itself without, and by method 3 beside method 2: medians,
+//! ratios and growth, held to the budget.
 
 mod families;
 
@@ -44,7 +44,7 @@ const OPERATIONS: [(&str, Operation, Option<&str>); 5] = [
     (
         "plan 3",
         Plan(ffi::METHOD_GN2),
-        Some("which walks the loop afresh at every stall"),
+        Some("but where slabs wait: entered-ring is made against the walk that it keeps, about n²/8 steps"),
     ),
     ("deadlock", Deadlock, None),
     ("replay", Replay, Some("for which none was asked")),
@@ -57,6 +57,11 @@ const LENGTH_OPERATIONS: [(&str, Operation, f64); 2] = [
     ("check", Check, 1.6),
     ("plan 2", Plan(ffi::METHOD_GN1), 1.2),
 ];
+
+/// The families in which method 3 is held to method 2: long walks, of which a move leaves nearly all. How many times
+/// method 2's time it may take there.
+const WAITING: [&str; 3] = ["waiting", "waiting-mixed", "waiting-tall"];
+const METHODS: f64 = 3.0;
 
 /// Who makes a call: the library, or plain Rust; with lengths or without.
 #[derive(Clone, Copy, PartialEq, Eq)]
@@ -225,8 +230,8 @@ impl Lent {
     }
 
     /// Whether both sides give the same answer, a problem's and no refusal, and leave the same space.
-    fn agree(&mut self, operation: Operation, sides: Sides) -> bool {
-        let [one, other] = sides.map(|side| {
+    fn agree(&mut self, calls: Calls) -> bool {
+        let [one, other] = calls.map(|(operation, side)| {
             self.space.fill(u16::MAX);
             (self.call(operation, side), self.space.clone())
         });
@@ -243,8 +248,8 @@ impl Lent {
     }
 }
 
-/// Two sides that are measured beside each other.
-type Sides = [Side; 2];
+/// Two calls that are measured beside each other.
+type Calls = [(Operation, Side); 2];
 
 /// The medians of two sides for each size.
 type Medians = [[Duration; 2]; SIZES.len()];
@@ -255,13 +260,12 @@ fn median(samples: &mut [Duration]) -> Duration {
 }
 
 /// Measures all sizes in turn, both sides beside each other, whichever first.
-fn measure(lent: &mut [Lent], operation: Operation, sides: Sides, patience: u32) -> Medians {
-    let calls: Vec<u32> = lent
+fn measure(lent: &mut [Lent], calls: Calls, patience: u32) -> Medians {
+    let (operation, side) = calls[1];
+    let counts: Vec<u32> = lent
         .iter_mut()
         .map(|one| {
-            let once = one
-                .time(operation, sides[1], 3)
-                .max(Duration::from_nanos(100));
+            let once = one.time(operation, side, 3).max(Duration::from_nanos(100));
             (SAMPLE.as_nanos() / once.as_nanos()) as u32 + 1
         })
         .collect();
@@ -271,9 +275,10 @@ fn measure(lent: &mut [Lent], operation: Operation, sides: Sides, patience: u32)
         if round >= SAMPLES.0 && start.elapsed() > SERIES * patience {
             break;
         }
-        for ((one, taken), &calls) in lent.iter_mut().zip(&mut samples).zip(&calls) {
-            for side in [round % 2, 1 - round % 2] {
-                taken[side].push(one.time(operation, sides[side], calls));
+        for ((one, taken), &count) in lent.iter_mut().zip(&mut samples).zip(&counts) {
+            for which in [round % 2, 1 - round % 2] {
+                let (operation, side) = calls[which];
+                taken[which].push(one.time(operation, side, count));
             }
         }
     }
@@ -315,12 +320,10 @@ fn head(sides: [&str; 2]) {
     println!("{:>8}{:>12}", "growth", "allowed");
 }
 
-/// A row of a table: the operation by its name, who is measured, the most that their ratio may be, and whether the
-/// growth is bound.
+/// A row of a table: its name, what is measured, the most that the ratio may be, and whether the growth is bound.
 struct Row {
     name: String,
-    operation: Operation,
-    sides: Sides,
+    calls: Calls,
     ratio: f64,
     growth_bound: bool,
 }
@@ -341,26 +344,27 @@ impl Row {
 
     /// Measures and prints the row; gives the count of differing answers and missed budgets.
     fn print(&self, (family, problem): Family) -> usize {
-        let (name, operation, sides) = (&self.name, self.operation, self.sides);
+        let (name, calls) = (&self.name, self.calls);
+        let [(operation, side), (other, _)] = calls;
         let mut faults = 0;
         let mut lent = SIZES.map(|n| {
             let one = Lent::new(problem(n), operation);
-            if sides[0] == OursWith {
+            if side == OursWith {
                 one.measured()
             } else {
                 one
             }
         });
         for (one, n) in lent.iter_mut().zip(SIZES) {
-            if !one.agree(operation, sides) {
+            if operation == other && !one.agree(calls) {
                 println!("{family} {name} {n}: the answers differ");
                 faults += 1;
             }
         }
-        let mut medians = measure(&mut lent, operation, sides, 1);
+        let mut medians = measure(&mut lent, calls, 1);
         for patience in 2..=TRIES as u32 {
             if !self.missed(&medians).is_empty() {
-                medians = measure(&mut lent, operation, sides, patience);
+                medians = measure(&mut lent, calls, patience);
             }
         }
         let missed = self.missed(&medians);
@@ -387,8 +391,7 @@ impl Row {
 fn without_lengths(family: Family) -> usize {
     let rows = OPERATIONS.map(|(name, operation, unbounded)| Row {
         name: name.into(),
-        operation,
-        sides: [Ours, Plain],
+        calls: [(operation, Ours), (operation, Plain)],
         ratio: RATIO,
         growth_bound: unbounded.is_none(),
     });
@@ -404,14 +407,24 @@ fn with_lengths(family: Family) -> usize {
             [("without", Ours, more), ("plain", PlainWith, RATIO)].map(|(beside, other, ratio)| {
                 Row {
                     name: format!("{name}, {beside}"),
-                    operation,
-                    sides: [OursWith, other],
+                    calls: [(operation, OursWith), (operation, other)],
                     ratio,
                     growth_bound: true,
                 }
             })
         });
     rows.map(|row| row.print(family)).sum()
+}
+
+/// A family's row of method 3 beside method 2; gives the count of faults.
+fn methods(family: Family) -> usize {
+    let row = Row {
+        name: "plan 3, plan 2".into(),
+        calls: [(Plan(ffi::METHOD_GN2), Ours), (Plan(ffi::METHOD_GN1), Ours)],
+        ratio: METHODS,
+        growth_bound: true,
+    };
+    row.print(family)
 }
 
 fn main() -> ExitCode {
@@ -431,6 +444,14 @@ fn main() -> ExitCode {
         .filter(chosen)
         .map(without_lengths)
         .sum();
+    let waiting = |family: &Family| chosen(family) && WAITING.contains(&family.0);
+    let families: Vec<Family> = FAMILIES.into_iter().filter(waiting).collect();
+    if !families.is_empty() {
+        println!("\nWhere slabs wait, the library by method 3 beside itself by method 2.");
+        println!("Budget: method 3 at most {METHODS} of the time of method 2, at 4,000 slabs.");
+        head(["method 3", "method 2"]);
+        faults += families.into_iter().map(methods).sum::<usize>();
+    }
     let measured = |family: &Family| chosen(family) && WITH_LENGTHS.contains(&family.0);
     let families: Vec<Family> = FAMILIES.into_iter().filter(measured).collect();
     if !families.is_empty() {
