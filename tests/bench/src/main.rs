@@ -3,7 +3,7 @@
 
 mod families;
 
-use families::{Family, Problem, FAMILIES};
+use families::{Family, Problem, FAMILIES, WAITING};
 use std::hint::black_box;
 use std::process::ExitCode;
 use std::time::{Duration, Instant};
@@ -44,7 +44,10 @@ const OPERATIONS: [(&str, Operation, Option<&str>); 5] = [
     (
         "plan 3",
         Plan(ffi::METHOD_GN2),
-        Some("but where slabs wait: entered-ring is made against the walk that it keeps, about n²/8 steps"),
+        Some(
+            "which is bound below where slabs wait: entered-ring is made against the walk that it keeps, and takes \
+             about n²/8 steps",
+        ),
     ),
     ("deadlock", Deadlock, None),
     ("replay", Replay, Some("for which none was asked")),
@@ -58,9 +61,7 @@ const LENGTH_OPERATIONS: [(&str, Operation, f64); 2] = [
     ("plan 2", Plan(ffi::METHOD_GN1), 1.2),
 ];
 
-/// The families in which method 3 is held to method 2: long walks, of which a move leaves nearly all. How many times
-/// method 2's time it may take there.
-const WAITING: [&str; 3] = ["waiting", "waiting-mixed", "waiting-tall"];
+/// How many times method 2's time method 3 may take where slabs wait.
 const METHODS: f64 = 3.0;
 
 /// Who makes a call: the library, or plain Rust; with lengths or without.
@@ -416,22 +417,34 @@ fn with_lengths(family: Family) -> usize {
     rows.map(|row| row.print(family)).sum()
 }
 
-/// A family's row of method 3 beside method 2; gives the count of faults.
+/// A family's row of method 3 beside method 2, whose answers are held to plain Rust's; gives the count of faults.
 fn methods(family: Family) -> usize {
+    let operations = [Plan(ffi::METHOD_GN2), Plan(ffi::METHOD_GN1)];
+    let mut faults = 0;
+    for n in SIZES {
+        let differs = |&operation: &Operation| {
+            let calls = [(operation, Ours), (operation, Plain)];
+            !Lent::new(family.1(n), operation).agree(calls)
+        };
+        if operations.iter().any(differs) {
+            println!("{} {n}: the answers differ", family.0);
+            faults += 1;
+        }
+    }
     let row = Row {
         name: "plan 3, plan 2".into(),
-        calls: [(Plan(ffi::METHOD_GN2), Ours), (Plan(ffi::METHOD_GN1), Ours)],
+        calls: operations.map(|operation| (operation, Ours)),
         ratio: METHODS,
         growth_bound: true,
     };
-    row.print(family)
+    faults + row.print(family)
 }
 
 fn main() -> ExitCode {
     let wished: Vec<String> = std::env::args().skip(1).collect();
     if let Some(word) = wished
         .iter()
-        .find(|w| FAMILIES.iter().all(|(name, _)| name != *w))
+        .find(|w| FAMILIES.iter().chain(&WAITING).all(|(name, _)| name != *w))
     {
         eprintln!("{word} is no family");
         return ExitCode::FAILURE;
@@ -444,8 +457,7 @@ fn main() -> ExitCode {
         .filter(chosen)
         .map(without_lengths)
         .sum();
-    let waiting = |family: &Family| chosen(family) && WAITING.contains(&family.0);
-    let families: Vec<Family> = FAMILIES.into_iter().filter(waiting).collect();
+    let families: Vec<Family> = WAITING.into_iter().filter(chosen).collect();
     if !families.is_empty() {
         println!("\nWhere slabs wait, the library by method 3 beside itself by method 2.");
         println!("Budget: method 3 at most {METHODS} of the time of method 2, at 4,000 slabs.");
