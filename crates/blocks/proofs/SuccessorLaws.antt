@@ -8,7 +8,7 @@ use Rattle.lists.proofs.ReflectLaws.{same?}
 use Rattle.blocks.specs.State.{State, support, put, down, Above, Clear}
 use Rattle.blocks.specs.Position.{Problem, InPosition, Misplaced}
 use Rattle.blocks.specs.Move.{Legal}
-use Rattle.blocks.specs.Stall.{Waiting, Moves, builds, clears}
+use Rattle.blocks.specs.Stall.{Moves, builds, clears}
 use Rattle.blocks.specs.Steps.{Foot, InTheWay, onto, under, Successor}
 use Rattle.blocks.proofs.StateLaws.{down-suc}
 use Rattle.blocks.proofs.FrameLaws.{moved-avoided, position-frame, position-unframe, above-frame, clear-frame}
@@ -36,10 +36,9 @@ module _ {s g : State} {a z : ℕ} (p : Problem s g) (m : Moves s g a z) where
   away : Misplaced s g a
   away = moves-misplaced m
 
-  -- a method moves nothing onto a misplaced block, so one that waits and is not moved waits on
-  pub waiting-kept : {b : ℕ} → b ≢ a → Waiting s g b → Waiting (put s a z) g b
-  waiting-kept n w =
-      (λ i. w .0 (position-unframe legal n i), clear-frame legal (λ e. w .0 (subst (InPosition s g) (sym e) (moves-landed m))) (w .1))
+  -- a method moves nothing onto a misplaced block
+  clear-kept : {b : ℕ} → Misplaced s g b → Clear s b → Clear (put s a z) b
+  clear-kept n w = clear-frame legal (λ e. n (subst (InPosition s g) (sym e) (moves-landed m))) w
 
   -- c and d stay, unless the move brings d home
   foot-kept : {b c d : ℕ} → Foot s g b c d → (InPosition (put s a z) g a → d ≢ a) → Foot (put s a z) g b c d
@@ -91,6 +90,6 @@ module _ {s g : State} {a z : ℕ} (p : Problem s g) (m : Moves s g a z) where
             let home = constructive-if p legal away i in
             n (subst (Clear s) (home .home ∙ ap (support g) (sym e) ∙ foot-rests f) (home .legal .free))
 
-    pub successor-kept : {b : ℕ} → Waiting s g y → Successor s g b y → Successor (put s a z) g b y
+    pub successor-kept : {b : ℕ} → Misplaced s g y → Successor s g b y → Successor (put s a z) g b y
     successor-kept w v =
-        record { through = v .through; way = way-kept (v .way) (v .above); clear = waiting-kept other w .1; above = above-frame legal other (v .above) }
+        record { through = v .through; way = way-kept (v .way) (v .above); clear = clear-kept w (v .clear); above = above-frame legal other (v .above) }

@@ -31,7 +31,7 @@ use Rattle.statuses.specs.declared.Mode.the-variants.{Clearing, Building, Gn1, 
 use Rattle.statuses.proofs.BeginLaws.{known-within}
 use Rattle.statuses.proofs.LooseLaws.{loose-by, perched-held, waiting-held}
 use Rattle.choices.specs.Choices.{Pickable, Picks}
-use Rattle.choices.specs.Walks.{KeptTrail, Visits, Starts, Walkable, Unlocked}
+use Rattle.choices.specs.Walks.{KeptTrail, KeptWalk, Starts, Walkable, Unlocked}
 use Rattle.choices.proofs.ChoiceLaws.{Chosen, counted, none-perched, none-waits, clear-next, build-next, build-stop, solve-build, solve-stop, solve-clear}
 use Rattle.choices.proofs.TrailLaws.{nothing-kept, visits-built}
 use Rattle.choices.proofs.WalkLaws.{linked-within}
@@ -159,8 +159,8 @@ module _ {m : Mode} {g : State} {y z : Yard} (w : Pickable m g y z) where
         within = within-none;
       }
     where
-      stay : (s : State) → Kept m s g y z → Visits m s g y → (c : ℕ) → (c ≢ 0 → walksᵇ m ≡ true → Constructive s g c x) → (t : Bool) → walksᵇ m ≡ t
-          → Visits m (put s c x) g y
+      stay : (s : State) → Kept m s g y z → KeptWalk m s g y → (c : ℕ) → (c ≢ 0 → walksᵇ m ≡ true → Constructive s g c x) → (t : Bool) → walksᵇ m ≡ t
+          → KeptWalk m (put s c x) g y
       stay s q v zero r t e = v
       stay s q v (suc c) r true e = visits-built (problem q) (r (λ k. absurd (omega (arith, k))) e) v
       stay s q v (suc c) r false e = nothing-kept (v .none e)
@@ -237,7 +237,7 @@ module _ {m : Mode} {g : State} {y z : Yard} (w : Pickable m g y z) where
             loop-end r = picks (λ s q. subst (λ step. Chosen (step g s) s g 0 0) (sym (step-loop m deep)) (solve-stop (problem q) lowestOnLoop (start-none q deep l r))) (stops refl)
 
             module _ (some : low ≢ 0) where
-              begins : (s : State) → Kept m s g y z → Visits m s g y → Starts s g y low
+              begins : (s : State) → Kept m s g y z → KeptWalk m s g y → Starts s g y low
               begins s q v = starts q deep l (stalled q f none) some (v .trail)
 
               pub walkable : Walkable y low
@@ -251,7 +251,7 @@ module _ {m : Mode} {g : State} {y z : Yard} (w : Pickable m g y z) where
                     within = u .within;
                   }
                 where
-                  chosen : (s : State) → Kept m s g y z → Visits m s g y → Chosen (solving lowestOnLoop g s) s g c 0
+                  chosen : (s : State) → Kept m s g y z → KeptWalk m s g y → Chosen (solving lowestOnLoop g s) s g c 0
                   chosen s q v =
                       solve-clear (problem q) lowestOnLoop (loop-picked g) (is-ready q f) none (counted (problem q) (start-waits q deep l some .0)) (u .lowest s g (begins s q v))
 

@@ -17,15 +17,15 @@ use Rattle.lists.proofs.SearchLaws.{count-le, count-none, count-one-more}
 use Rattle.blocks.specs.State.{State, put}
 use Rattle.blocks.specs.Position.{Problem, InPosition, Misplaced}
 use Rattle.blocks.specs.Move.{Constructive}
-use Rattle.blocks.specs.Stall.{Waiting, Moves, builds}
+use Rattle.blocks.specs.Stall.{Moves, builds}
 use Rattle.blocks.proofs.StateLaws.{length-put}
 use Rattle.blocks.proofs.FrameLaws.{position-frame}
 use Rattle.blocks.proofs.PositionLaws.{position-moved}
 use Rattle.blocks.proofs.StepLaws.{moves-legal}
-use Rattle.blocks.proofs.SuccessorLaws.{successor-misplaced, waiting-kept, successor-kept}
+use Rattle.blocks.proofs.SuccessorLaws.{successor-misplaced, successor-kept}
 use Rattle.statuses.specs.declared.Mode.{Mode}
 use Rattle.choices.specs.Visits.{seenIn, keptOf}
-use Rattle.choices.specs.Walks.{Trail, KeptTrail, Visits, Unvisited}
+use Rattle.choices.specs.Walks.{Trail, KeptTrail, KeptWalk, Unvisited}
 
 -- ---- which blocks are on it
 
@@ -37,7 +37,6 @@ pub trail-none : {s g : State} {seen places : List ℕ} → Trail s g seen place
 trail-none = record {
   blocks = λ i h. absurd (omega arith);
   placed = λ i h. absurd (omega arith);
-  clear = λ i h. absurd (omega arith);
   follows = λ i h. absurd (omega arith);
 }
 
@@ -46,7 +45,6 @@ module _ {s g : State} {seen places : List ℕ} {k : ℕ} (t : Trail s g seen pl
   trail-shorter h = record {
     blocks = λ i d. t .blocks i (omega arith);
     placed = λ i d. t .placed i (omega arith);
-    clear = λ i d. t .clear i (omega arith);
     follows = λ i d. t .follows i (omega arith);
   }
 
@@ -113,23 +111,18 @@ module _ {s g : State} {seen places : List ℕ} {k : ℕ} (t : Trail s g seen pl
   trail-moved {a} {z} p m off = record {
     blocks = λ i h. let b = t .blocks i h in record { low = b .low; high = omega (arith, b .high, length-put s a z) };
     placed = t .placed;
-    clear = λ i h n. waiting-kept p m (off i h n) (waits i h n) .1;
-    follows = λ i h n. successor-kept p m (off (suc i) h n) (waits (suc i) h n) (t .follows i h (before (suc i) h n));
+    follows = λ i h n.
+        let before : Misplaced s g (getD seen (suc i) 0) = λ q. n (position-frame (moves-legal p m) (off (suc i) h n) q) in
+        successor-kept p m (off (suc i) h n) before (t .follows i h before);
   }
-    where
-      before : (i : ℕ) → i < k → Misplaced (put s a z) g (getD seen i 0) → Misplaced s g (getD seen i 0)
-      before i h n q = n (position-frame (moves-legal p m) (off i h n) q)
-
-      waits : (i : ℕ) → i < k → Misplaced (put s a z) g (getD seen i 0) → Waiting s g (getD seen i 0)
-      waits i h n = (before i h n, t .clear i h (before i h n))
 
 -- ---- in the rows
 
-pub nothing-kept : {m : Mode} {s g : State} {y : Yard} → keptOf y ≡ 0 → Visits m s g y
+pub nothing-kept : {m : Mode} {s g : State} {y : Yard} → keptOf y ≡ 0 → KeptWalk m s g y
 nothing-kept {m} {s} {g} {y} e = record { trail = subst (Trail s g (seenOf y) (placesOf y)) (sym e) trail-none; none = λ _. e }
 
 -- the other rows do not tell of it
-pub visits-within : {m : Mode} {s g : State} {y y′ : Yard} {lo : ℕ} → Within lo 7 y y′ → Visits m s g y → Visits m s g y′
+pub visits-within : {m : Mode} {s g : State} {y y′ : Yard} {lo : ℕ} → Within lo 7 y y′ → KeptWalk m s g y → KeptWalk m s g y′
 visits-within w v =
     let seen = w .above 7 (omega arith) in
     let places = w .above 8 (omega arith) in
@@ -140,24 +133,27 @@ unvisited-within w h u = record { none = rw (w .above 8 h) (u .none) }
 
 -- how many are kept is stored at the place of the table, which is not on the trail
 module _ {y : Yard} (r : Sized y) (k : ℕ) where
-  rows : placesOf (store y 8 0 k) ≡ set (placesOf y) 0 k
-  rows = stored y 8 0 k (omega (arith, r .rows))
+  places-stored : placesOf (store y 8 0 k) ≡ set (placesOf y) 0 k
+  places-stored = stored y 8 0 k (omega (arith, r .rows))
 
   kept-stored : keptOf (store y 8 0 k) ≡ k
-  kept-stored = rw rows (getD-set-same (placesOf y) 0 k 0 (omega (arith, r .rooms 8 (omega arith))))
+  kept-stored = rw places-stored (getD-set-same (placesOf y) 0 k 0 (omega (arith, r .rooms 8 (omega arith))))
+
+  -- the block behind those kept
+  pub kept-beside : getD (seenOf (store y 8 0 k)) (keptOf (store y 8 0 k)) 0 ≡ getD (seenOf y) k 0
+  kept-beside = rw (kept-stored, stored-beside y 8 0 k 7 (λ z. omega arith))
 
   trail-stored : {s g : State} → Trail s g (seenOf y) (placesOf y) k → KeptTrail s g (store y 8 0 k)
-  trail-stored {s} {g} t = rw (kept-stored, stored-beside y 8 0 k 7 (λ z. omega arith), rows) (record {
+  trail-stored {s} {g} t = rw (kept-stored, stored-beside y 8 0 k 7 (λ z. omega arith), places-stored) (record {
     blocks = t .blocks;
     placed = λ i h. getD-set-other (placesOf y) 0 (getD (seenOf y) i 0) k 0 (λ z. absurd (omega (arith, z, t .blocks i h .low))) ∙ t .placed i h;
-    clear = t .clear;
     follows = t .follows;
   })
 
 -- ---- the run's moves
 
 -- a block is brought home: nothing has to be cut
-pub visits-built : {m : Mode} {s g : State} {y : Yard} {a x : ℕ} → Problem s g → Constructive s g a x → Visits m s g y → Visits m (put s a x) g y
+pub visits-built : {m : Mode} {s g : State} {y : Yard} {a x : ℕ} → Problem s g → Constructive s g a x → KeptWalk m s g y → KeptWalk m (put s a x) g y
 visits-built {m} {s} {g} {y} {a} {x} p c v =
     record {
       trail = trail-moved (v .trail) p (builds c) (λ i h n e. n (subst (InPosition (put s a x) g) (sym e) (position-moved c)));

@@ -1,6 +1,6 @@
 -- The block that is put down at a stall, and the walk cut there. Assumes nothing.
 use Prim.Native.Nat.{ℕ, _+_, _≤_, _<_}
-use mathlib.Core.Path.{_≡_, refl, sym, _∙_, subst}
+use mathlib.Core.Path.{_≡_, refl, sym, ap, _∙_, subst}
 use native.Mathlib.Omega.{arith}
 use lib.ListN.{length, getD}
 use Rattle.rows.specs.Rows.{Yard, Sized, rowSize, store, seenOf, placesOf}
@@ -14,7 +14,7 @@ use Rattle.choices.specs.Walks.{Starts, Walkable, Walked, Unlocked}
 use Rattle.choices.specs.declared.Span.{Span}
 use Rattle.choices.proofs.ChoiceLaws.{counted}
 use Rattle.choices.proofs.SpanLaws.{part-size, part-at}
-use Rattle.choices.proofs.TrailLaws.{trail-cut}
+use Rattle.choices.proofs.TrailLaws.{trail-place, kept-beside, trail-cut}
 use Rattle.choices.proofs.WalkLaws.{lowest-on-loop}
 
 module _ {y : Yard} {start : ℕ} (w : Walkable y start) {r : Span} {y′ : Yard} (a : Walked start r y y′) where
@@ -28,18 +28,18 @@ module _ {y : Yard} {start : ℕ} (w : Walkable y start) {r : Span} {y′ : Yard
 
   module _ {c : ℕ} (h : LowestIn (part (seenOf y′) r) c) where
     -- it stands on the walk
-    abbrev j : ℕ
-    j = r .from + h .place
+    abbrev place : ℕ
+    place = r .from + h .place
 
-    there : (j < r .to) × (getD (seenOf y′) j 0 ≡ c)
+    there : (place < r .to) × (getD (seenOf y′) place 0 ≡ c)
     there =
         let high = span-within .1 in
-        let inside : j < r .to = omega (arith, h .within, part-size (seenOf y′) (r .from) (r .to) high) in
+        let inside : place < r .to = omega (arith, h .within, part-size (seenOf y′) (r .from) (r .to) high) in
         (inside, sym (h .is ∙ part-at (seenOf y′) (r .from) (r .to) high (h .place) inside))
 
     pub low-in : c < rowSize
     low-in =
-        let b = a .trail (w .state) (w .goal) (w .starts) .blocks j (there .0) in
+        let b = a .trail (w .state) (w .goal) (w .starts) .blocks place (there .0) in
         omega (arith, there .1, b .high, w .starts .linked .known .small)
 
     is-lowest : (s g : State) → Starts s g y start → c ≡ lowestOnLoop s g
@@ -51,10 +51,14 @@ module _ {y : Yard} {start : ℕ} (w : Walkable y start) {r : Span} {y′ : Yard
         let p = q .linked .known .problem in
         clears (subst (Perched s g) (sym (is-lowest s g q)) (loop-picked g s p (q .stalled) (counted p (q .waiting .0)))) refl
 
+    stands-there : getD (placesOf y′) c 0 ≡ place
+    stands-there = trail-place (a .trail (w .state) (w .goal) (w .starts)) place c (there .0) (there .1)
+
     pub unlocked : {y₂ : Yard} → y₂ ≡ store y′ 8 0 (getD (placesOf y′) c 0) → Unlocked start c y y₂
     unlocked e =
         record {
           lowest = is-lowest;
+          kept = rw e (kept-beside sized (getD (placesOf y′) c 0) ∙ ap (λ i. getD (seenOf y′) i 0) stands-there ∙ there .1);
           trail = λ s g q.
               rw e (trail-cut sized (q .linked .known .problem) (put-down s g q) (a .trail s g q) (there .0) (there .1));
           within = rw e (within-store 8 0 (getD (placesOf y′) c 0) (a .within) (omega arith) (omega arith));

@@ -14,7 +14,7 @@ use Rattle.rows.specs.Rows.{Yard, Sized, store, standsOf, seenOf, placesOf, Wit
 use Rattle.rows.proofs.RowLaws.{stored, stored-beside, within-none, within-store, sized-within}
 use Rattle.lists.specs.Search.{Lowest}
 use Rattle.lists.proofs.ReflectLaws.{Reflects, holds, fails, eqb-reflects, from-true, same?}
-use Rattle.blocks.specs.State.{State, most, Block, Clear}
+use Rattle.blocks.specs.State.{State, most, Block}
 use Rattle.blocks.specs.Position.{Problem, Misplaced}
 use Rattle.blocks.specs.Stall.{Waiting, NoneReady, IsLoop}
 use Rattle.blocks.specs.Steps as words
@@ -115,12 +115,14 @@ module _ {s g : State} {y : Yard} {start : ℕ} (w : Starts s g y start) where
           let wrong : Misplaced s g (getD seen k 0) =
           λ i. eqb-false (getD (standsOf y) (getD seen k 0) 0) 2 (r .1) (right-stands problem (w .linked .known .stands) high i) in
           let is : getD seen k 0 ≡ b = sym (h ∙ ap (λ t. cond t start (getD seen k 0)) (ne-eqb k 0 n)) in
+          let leads : (i : ℕ) → suc i ≡ k → Successor s g (getD seen i 0) (getD seen k 0) =
+          λ i q.
+          let here = ap (λ j. getD seen j 0) q in
+          subst (Successor s g (getD seen i 0)) here (t .follows i (omega (arith, q, r .0)) (subst (Misplaced s g) (sym here) wrong)) in
           record {
             trail = trail-shorter t (omega (arith, r .0));
-            waiting = subst (Waiting s g) is (wrong, t .clear k (r .0) wrong);
-            last = λ i q.
-                let here = ap (λ j. getD seen j 0) q in
-                subst (Successor s g (getD seen i 0)) (here ∙ is) (t .follows i (omega (arith, q, r .0)) (subst (Misplaced s g) (sym here) wrong));
+            waiting = subst (Waiting s g) is (wrong, leads (pred k) (omega (arith, n)) .clear);
+            last = λ i q. subst (Successor s g (getD seen i 0)) is (leads i q);
             begins = λ z. absurd (n z);
             began = λ _. subst (Lowest (Waiting s g) (length s)) (sym (r .2)) first-is;
           }
@@ -133,7 +135,6 @@ next {s} {g} {seen} {places} {b} {k} p still v new room place-room =
       trail = record {
         blocks = λ i h. blocks i (same? i k) h;
         placed = λ i h. at i (same? i k) h;
-        clear = λ i h. clear i (same? i k) h;
         follows = λ i h. follows i (same? (suc i) k) h;
       };
       waiting = successor-waits p still b (v .waiting) .0;
@@ -154,10 +155,6 @@ next {s} {g} {seen} {places} {b} {k} p still v new room place-room =
     blocks : (i : ℕ) → (i ≡ k) ⊎ (¬ (i ≡ k)) → i < suc k → Block s (getD (set seen k b) i 0)
     blocks i (inl e) h = subst (Block s) (sym (here i e)) (misplaced-block (p .same) (v .waiting .0))
     blocks i (inr n) h = subst (Block s) (sym (there i n)) (t .blocks i (omega (arith, n)))
-
-    clear : (i : ℕ) → (i ≡ k) ⊎ (¬ (i ≡ k)) → i < suc k → Misplaced s g (getD (set seen k b) i 0) → Clear s (getD (set seen k b) i 0)
-    clear i (inl e) h m = subst (Clear s) (sym (here i e)) (v .waiting .1)
-    clear i (inr n) h m = subst (Clear s) (sym (there i n)) (t .clear i (omega (arith, n)) (subst (Misplaced s g) (there i n) m))
 
     follows : (i : ℕ) → (suc i ≡ k) ⊎ (¬ (suc i ≡ k)) → suc i < suc k → Misplaced s g (getD (set seen k b) (suc i) 0)
         → Successor s g (getD (set seen k b) i 0) (getD (set seen k b) (suc i) 0)

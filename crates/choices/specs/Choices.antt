@@ -9,7 +9,7 @@ use Rattle.blocks.specs.Method.{Step, stop, go}
 use Rattle.statuses.specs.Modes.{stepOf}
 use Rattle.statuses.specs.Kept.{Kept}
 use Rattle.statuses.specs.declared.Mode.{Mode}
-use Rattle.choices.specs.Walks.{Visits}
+use Rattle.choices.specs.Walks.{KeptWalk}
 use Rattle.choices.specs.declared.Picked.{Picked}
 
 -- A block and where it goes, as a step: block 0 stops.
@@ -21,7 +21,7 @@ asStep (suc b) x = go (suc b) x
 pub record Pickable (m : Mode) (g : State) (y z : Yard) : Type 0 where
   pub state : State
   pub kept : Kept m state g y z
-  pub visits : Visits m state g y
+  pub visits : KeptWalk m state g y
 
 -- The step of the run, and a move of a method.
 pub record Chooses (m : Mode) (s g : State) (r : Picked) : Type 0 where
@@ -30,6 +30,6 @@ pub record Chooses (m : Mode) (s g : State) (r : Picked) : Type 0 where
 
 -- The next move, of whatever state the rows are, and what is kept of the walk is already true of the state after it; only the rows of the walk have changed.
 pub record Picks (m : Mode) (g : State) (z : Yard) (r : Picked) (y y′ : Yard) : Type 0 where
-  pub chooses : (s : State) → Kept m s g y z → Visits m s g y → Chooses m s g r
-  pub visits : (s : State) → Kept m s g y z → Visits m s g y → Visits m (put s (r .block) (r .dest)) g y′
+  pub chooses : (s : State) → Kept m s g y z → KeptWalk m s g y → Chooses m s g r
+  pub visits : (s : State) → Kept m s g y z → KeptWalk m s g y → KeptWalk m (put s (r .block) (r .dest)) g y′
   pub within : Within 7 9 y y′

@@ -59,7 +59,7 @@ pub fn pick(mode: Mode, goal: &[u16], yard: &mut Yard, sets: &Sets) -> Picked
     }
 }
 
-// The lowest block on the loop. It is to be put down, so the walk is kept up to it: what was seen before it.
+// The lowest block on the loop. It is to be put down, so the walk is kept up to it: what was seen before it. The place of the table says how many are kept.
 fn unlock(yard: &mut Yard, start: usize) -> usize
     requires { ⌜ Walkable (now yard) start ⌝ }
     ensures { λ r. ⌜ Unlocked start r (now (yard .entry)) (now (yard .exit)) ⌝ }
@@ -138,7 +138,7 @@ fn is_seen(yard: &Yard, k: usize, b: usize) -> bool
     lists::wide(yard[SEEN][i]) == b
 }
 
-// The lowest block of a part of the list. From behind: the part's end is known before its start.
+// The lowest block of a part of the list. From behind, for speed: a walk comes to know the part's end before its start.
 pub fn lowest_in(seen: &[u16], span: Span) -> usize
     requires { ⌜ (span .from < span .to) × (span .to ≤ length (now seen)) ⌝ }
     ensures { λ r. ⌜ LowestIn (part (now (seen .entry)) span) r ⌝ }

@@ -42,7 +42,7 @@ pub record Showable (y : Yard) (out : List ℕ) (low count : ℕ) : Type 0 where
 abbrev pub loopOf : State → State → List ℕ
 loopOf s g = cond (eqb (misplacedCount s g) 0) [] (onward s (loop s g))
 
--- The yard is of a state in which no block is ready.
+-- The yard is of a state in which no block is ready, and what is kept of a walk is true of it.
 pub record Looks (s g : State) (y z : Yard) : Type 0 where
   pub kept : Kept Gn2 s g y z
   pub stalled : NoneReady s g

@@ -13,7 +13,7 @@ use Rattle.blocks.proofs.StepLaws.{moves-legal, moves-measure}
 use Rattle.statuses.specs.Kept.{Turnable, Turned}
 use Rattle.statuses.specs.declared.Mode.{Mode}
 use Rattle.choices.specs.Choices.{Pickable, Chooses, Picks, asStep}
-use Rattle.choices.specs.Walks.{Visits}
+use Rattle.choices.specs.Walks.{KeptWalk}
 use Rattle.choices.specs.declared.Picked.{Picked}
 use Rattle.choices.proofs.TrailLaws.{visits-within}
 use Rattle.choices.proofs.PickLaws.{kept-within}
@@ -31,14 +31,14 @@ module _ {m : Mode} {s g : State} {y z : Yard} {out : List ℕ} {k : ℕ} (w : S
     chosen : Chooses m s g r
     chosen = p .chooses s (w .kept) (w .visits)
 
-    visits-after : Visits m (put s (r .block) (r .dest)) g y₁
+    visits-after : KeptWalk m (put s (r .block) (r .dest)) g y₁
     visits-after = p .visits s (w .kept) (w .visits)
 
     pub stop-way : r .block ≡ 0 → Stepped m s g out k 0 s y₁ z out
     stop-way q =
         record {
           kept = kept-within (w .kept) (p .within);
-          visits = subst (λ b. Visits m (put s b (r .dest)) g y₁) q visits-after;
+          visits = subst (λ b. KeptWalk m (put s b (r .dest)) g y₁) q visits-after;
           stopped = λ _. (chosen .step ∙ ap (λ b. asStep b (r .dest)) q, refl, refl);
           moved = λ n. absurd (n refl);
         }
@@ -61,7 +61,7 @@ module _ {m : Mode} {s g : State} {y z : Yard} {out : List ℕ} {k : ℕ} (w : S
       move-way u o =
           record {
             kept = u .kept;
-            visits = visits-within (u .within) (subst (λ q. Visits m q g y₁) (sym (u .state)) visits-after);
+            visits = visits-within (u .within) (subst (λ q. KeptWalk m q g y₁) (sym (u .state)) visits-after);
             stopped = λ q. absurd (n q);
             moved = λ _. (r .dest, chosen .step ∙ go-is (r .block) (r .dest) n, u .state, o, chosen .move n);
           }

@@ -15,19 +15,19 @@ use Rattle.blocks.specs.Answer.{flat}
 use Rattle.statuses.specs.Modes.{stepOf}
 use Rattle.statuses.specs.Kept.{Kept}
 use Rattle.statuses.specs.declared.Mode.{Mode}
-use Rattle.choices.specs.Walks.{Visits}
+use Rattle.choices.specs.Walks.{KeptWalk}
 
--- One step of a run can be made: there is room for all pairs that the measure still allows.
+-- One step of a run can be made: there is room for all pairs that the measure still allows, and they are few enough to be counted.
 pub record Steppable (m : Mode) (s g : State) (y z : Yard) (out : List ℕ) (k : ℕ) : Type 0 where
   pub kept : Kept m s g y z
-  pub visits : Visits m s g y
+  pub visits : KeptWalk m s g y
   pub room : 2 * k + 2 * measure s g ≤ length out
   pub count : k + measure s g < 65535
 
 -- The step: none, with nothing changed, or a move, written as the k-th pair.
 pub record Stepped (m : Mode) (s g : State) (out : List ℕ) (k r : ℕ) (t : State) (y z : Yard) (out′ : List ℕ) : Type 0 where
   pub kept : Kept m t g y z
-  pub visits : Visits m t g y
+  pub visits : KeptWalk m t g y
   pub stopped : r ≡ 0 → (stepOf m g s ≡ stop) × (t ≡ s) × (out′ ≡ out)
   pub moved : r ≢ 0 → (x : ℕ) × (stepOf m g s ≡ go r x) × (t ≡ put s r x) × (out′ ≡ set (set out (2 * k) r) (2 * k + 1) x) × Moves s g r x
 
@@ -40,7 +40,7 @@ pub record Ran (m : Mode) (s g : State) (k₀ : ℕ) (out₀ : List ℕ) (k : �
   pub written : out ≡ sets out₀ (2 * k₀) (flat moves)
   pub spent : length moves + measure t g ≤ measure s g
   pub kept : Kept m t g y z
-  pub visits : Visits m t g y
+  pub visits : KeptWalk m t g y
 
 -- A run that has ended.
 pub record Finished (m : Mode) (s g : State) (k₀ : ℕ) (out₀ : List ℕ) (k : ℕ) (t : State) (y z : Yard) (out : List ℕ) : Type 0 where

@@ -31,7 +31,7 @@ impl Problem {
 /// A family's name and its problem of about n blocks.
 pub type Family = (&'static str, fn(usize) -> Problem);
 
-pub const FAMILIES: [Family; 14] = [
+pub const FAMILIES: [Family; 15] = [
     ("random-tall", |n| random(n, (n as f64).sqrt())),
     ("random-low", |n| random(n, n as f64 / 2.0)),
     ("reversed", reversed),
@@ -43,16 +43,19 @@ pub const FAMILIES: [Family; 14] = [
     ("ring-mixed", |n| mixed(ring(n, 2))),
     ("ring-tall", |n| ring(n, 10)),
     WAITING[0],
-    ("entered-ring", entered_ring),
+    ("entered-ring", |n| ring_from_outside(n, true)),
+    ("long-loop", |n| ring_from_outside(n, false)),
     ("shifted", shifted),
     ("turned", turned),
 ];
 
-/// Those with long walks of which a move leaves nearly all.
-pub const WAITING: [Family; 3] = [
+/// Those in which slabs wait one for the other: a walk of all of them, at each stall the same but for its end. In the
+/// second only until a slab with a number lower than the start's is put down, and becomes the start.
+pub const WAITING: [Family; 4] = [
     ("waiting", |n| waiting(n, 2)),
     ("waiting-mixed", |n| mixed(waiting(n, 2))),
-    ("waiting-tall", |n| waiting(n, 10)),
+    ("waiting-first", |n| mixed_behind_the_first(waiting(n, 2))),
+    ("waiting-tall", |n| waiting(n, 10.min(n / 4))),
 ];
 
 /// Marsaglia's xorshift generator.
@@ -108,9 +111,22 @@ fn random(n: usize, towers: f64) -> Problem {
 
 /// The same problem with the blocks numbered at random.
 fn mixed(problem: Problem) -> Problem {
-    let n = problem.initial.len();
     let mut names = vec![0];
-    names.extend(Random(0x2545_f491_4f6c_dd1d).order(n));
+    names.extend(Random(0x2545_f491_4f6c_dd1d).order(problem.initial.len()));
+    renamed(problem, &names)
+}
+
+/// The same but for block 1, which keeps its number.
+fn mixed_behind_the_first(problem: Problem) -> Problem {
+    let mut names = vec![0, 1];
+    let others = Random(0x2545_f491_4f6c_dd1d).order(problem.initial.len() - 1);
+    names.extend(others.iter().map(|name| name + 1));
+    renamed(problem, &names)
+}
+
+/// The same problem with other numbers.
+fn renamed(problem: Problem, names: &[u16]) -> Problem {
+    let n = problem.initial.len();
     let rename = |state: &[u16]| {
         let mut renamed = vec![0; n];
         for (i, &support) in state.iter().enumerate() {
@@ -206,10 +222,12 @@ fn waiting(n: usize, height: usize) -> Problem {
     }
 }
 
-/// Made against the walk that method 3 keeps: a ring of towers, one of them of half the blocks, by which the walk comes
-/// in from outside. At each stall its top is the lowest block on the loop, and stands second on the walk, which is cut
-/// there: about n²/8 steps in all.
-fn entered_ring(n: usize) -> Problem {
+/// Made against the walk that method 3 keeps: a ring of towers, one of them of half the blocks, and one block outside
+/// that waits for the ring. At each stall the top of the tall tower is the lowest block on the loop, and the walk is cut
+/// there. Where the walk comes in by that tower, it stands second, and the next walk is of the whole ring: about n²/8
+/// steps. Where it comes in behind that tower, it stands last, and nothing is walked again; but the lowest block of the
+/// whole loop is looked for again, among about n²/8 blocks.
+fn ring_from_outside(n: usize, by_the_tall_one: bool) -> Problem {
     let ring = n / 4;
     let tall = n - 2 * ring - 3;
     let start = 1;
@@ -217,13 +235,18 @@ fn entered_ring(n: usize) -> Problem {
     let foot = |tower: usize| (tall + 2 + tower) as u16;
     let waits = |tower: usize| (tall + ring + 3 + tower) as u16;
     let mut now = vec![vec![n as u16, start]];
-    let mut goal = vec![vec![foot(0), waits(ring - 1), start]];
-    now.push(
-        std::iter::once(foot(0))
-            .chain(tops.iter().rev().copied())
-            .collect(),
-    );
-    goal.push(std::iter::once(foot(1)).chain(tops).collect());
+    let mut tall = vec![foot(0)];
+    tall.extend(tops.iter().rev());
+    now.push(tall);
+    let mut onto_tall = vec![foot(0), waits(ring - 1)];
+    let mut onto_next = vec![foot(1)];
+    onto_next.extend(tops);
+    if by_the_tall_one {
+        onto_tall.push(start);
+    } else {
+        onto_next.push(start);
+    }
+    let mut goal = vec![onto_tall, onto_next];
     for tower in 0..ring {
         now.push(vec![foot(tower + 1), waits(tower)]);
         if tower + 1 < ring {
