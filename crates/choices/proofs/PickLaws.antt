@@ -106,19 +106,15 @@ module _ {m : Mode} {s g : State} {y z : Yard} (w : Kept m s g y z) where
   pub perched-clean : {b : ℕ} → walksᵇ m ≡ false → NoneReady s g → b ≡ lowest (member (looseOf z)) highest → b ≡ 0 → misplacedCount s g ≡ 0
   perched-clean h still e q = none-perched problem still (perched-none problem (sym (is-perched h e) ∙ q))
 
-  ready-block : {b : ℕ} → b ≡ lowest (member (readyOf z)) highest → b ≢ 0 → (1 ≤ b) × (b ≤ length s)
-  ready-block {b} e n = by b (is-ready e) n
-    where
-      by : (c : ℕ) → c ≡ lowestReady s g → c ≢ 0 → (1 ≤ c) × (c ≤ length s)
-      by zero f o = absurd (o refl)
-      by (suc i) f o = let r = ready-found problem i (sym f) in (r .legal .block .low, r .legal .block .high)
-
   builds-at : {b x : ℕ} → b ≡ lowest (member (readyOf z)) highest → b ≢ 0 → x ≡ support g b → Constructive s g b x
   builds-at {b} {x} e n h = by b (is-ready e) n h
     where
       by : (c : ℕ) → c ≡ lowestReady s g → c ≢ 0 → x ≡ support g c → Constructive s g c x
       by zero f o k = absurd (o refl)
       by (suc i) f o k = subst (Constructive s g (suc i)) (sym k) (ready-found problem i (sym f))
+
+  ready-block : {b : ℕ} → b ≡ lowest (member (readyOf z)) highest → b ≢ 0 → (1 ≤ b) × (b ≤ length s)
+  ready-block e n = let r = builds-at e n refl in (r .legal .block .low, r .legal .block .high)
 
   -- ---- where the loop is walked the loose blocks are those that wait, and the towers are kept
 

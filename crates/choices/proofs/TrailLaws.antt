@@ -106,7 +106,7 @@ module _ {s g : State} {seen places : List ℕ} {k : ℕ} (t : Trail s g seen pl
 
   -- ---- a move leaves it, where a block on it that is moved is brought home
 
-  pub trail-moved : {a z : ℕ} → Problem s g → Moves s g a z → ((i : ℕ) → i < k → Misplaced (put s a z) g (getD seen i 0) → getD seen i 0 ≢ a)
+  trail-moved : {a z : ℕ} → Problem s g → Moves s g a z → ((i : ℕ) → i < k → Misplaced (put s a z) g (getD seen i 0) → getD seen i 0 ≢ a)
       → Trail (put s a z) g seen places k
   trail-moved {a} {z} p m off = record {
     blocks = λ i h. let b = t .blocks i h in record { low = b .low; high = omega (arith, b .high, length-put s a z) };
@@ -162,7 +162,5 @@ visits-built {m} {s} {g} {y} {a} {x} p c v =
 
 -- the block at j is put down: those before it stay
 pub trail-cut : {s g : State} {y : Yard} {k j a z : ℕ} → Sized y → Problem s g → Moves s g a z → Trail s g (seenOf y) (placesOf y) k → j < k
-    → getD (seenOf y) j 0 ≡ a → KeptTrail (put s a z) g (store y 8 0 (getD (placesOf y) a 0))
-trail-cut {s} {g} {y} {k} {j} {a} {z} r p m t h e =
-    let at : getD (placesOf y) a 0 ≡ j = trail-place t j a h e in
-    rw at (trail-stored r j (trail-moved (trail-shorter t (omega arith)) p m (λ i l n q. trail-apart t i j l h (q ∙ sym e))))
+    → getD (seenOf y) j 0 ≡ a → KeptTrail (put s a z) g (store y 8 0 j)
+trail-cut {j = j} r p m t h e = trail-stored r j (trail-moved (trail-shorter t (omega arith)) p m (λ i l n q. trail-apart t i j l h (q ∙ sym e)))

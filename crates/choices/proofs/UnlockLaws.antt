@@ -1,6 +1,6 @@
 -- The block that is put down at a stall, and the walk cut there. Assumes nothing.
 use Prim.Native.Nat.{ℕ, _+_, _≤_, _<_}
-use mathlib.Core.Path.{_≡_, refl, sym, ap, _∙_, subst}
+use mathlib.Core.Path.{_≡_, refl, sym, _∙_, subst}
 use native.Mathlib.Omega.{arith}
 use lib.ListN.{length, getD}
 use Rattle.rows.specs.Rows.{Yard, Sized, rowSize, store, seenOf, placesOf}
@@ -56,10 +56,9 @@ module _ {y : Yard} {start : ℕ} (w : Walkable y start) {r : Span} {y′ : Yard
 
     pub unlocked : {y₂ : Yard} → y₂ ≡ store y′ 8 0 (getD (placesOf y′) c 0) → Unlocked start c y y₂
     unlocked e =
-        record {
+        rw (e, stands-there) (record {
           lowest = is-lowest;
-          kept = rw e (kept-beside sized (getD (placesOf y′) c 0) ∙ ap (λ i. getD (seenOf y′) i 0) stands-there ∙ there .1);
-          trail = λ s g q.
-              rw e (trail-cut sized (q .linked .known .problem) (put-down s g q) (a .trail s g q) (there .0) (there .1));
-          within = rw e (within-store 8 0 (getD (placesOf y′) c 0) (a .within) (omega arith) (omega arith));
-        }
+          kept = kept-beside sized place ∙ there .1;
+          trail = λ s g q. trail-cut sized (q .linked .known .problem) (put-down s g q) (a .trail s g q) (there .0) (there .1);
+          within = within-store 8 0 place (a .within) (omega arith) (omega arith);
+        })
