@@ -34,7 +34,7 @@ CLASSROOM = ROOT / "docs" / "CLASSROOM.md"
 DECISIONS = ROOT / "docs" / "DECISIONS.md"
 SPECIFICATION = ROOT / "docs" / "SPECIFICATION.md"
 PICTURES = ROOT / "docs" / "pictures"
-THEOREMS = "crates/blocks/specs/Demands.antt"
+THEOREMS = ("crates/blocks/specs/Demands.antt", "crates/blocks/specs/SheetDemands.antt")
 SEARCHED = 7
 
 REFERENCE = re.compile(r"`([^`\s]+)`, `(crates/[^`:]+):(\d+)(?:-(\d+))?`")
@@ -43,7 +43,7 @@ DECLARED = re.compile(rf"( *)((?:(?:unfoldable|abbrev|pub) )*)(?:(record|data) (
 TICKED = re.compile(r"`([^`]+)`")
 READS = re.compile(r"(S\d) reads (\d+) and takes (\d+)")
 LIFT = re.compile(r"(\d+)→(\d+)")
-STATED = re.compile(r"^(?:abbrev pub (\S+)|pub record (\S+)) : Type 0(?: where)?\n((?:.+\n)+)", re.MULTILINE)
+STATED = re.compile(r"^(?:abbrev pub (\S+)|pub record (\S+)) : Type [01](?: where)?\n((?:.+\n)+)", re.MULTILINE)
 
 
 def text_of(path: Path) -> str:
@@ -135,8 +135,8 @@ def references() -> Iterator[Test]:
     numbered = re.findall(r"^## (\d+)\.(.*?)(?=^## |\Z)", text, re.M | re.S)
     yield "WHY.md, steps", "" if len(numbered) >= 7 else f"the page has {len(numbered)} numbered steps"
     for number, step in numbered:
-        named = [file for _, file, _, _ in REFERENCE.findall(step)]
-        yield f"WHY.md, step {number}", "" if THEOREMS in named else f"names no theorem of {THEOREMS}"
+        named = {file for _, file, _, _ in REFERENCE.findall(step)}
+        yield f"WHY.md, step {number}", "" if named & set(THEOREMS) else f"names no theorem of {' or '.join(THEOREMS)}"
     loose = len(re.findall(r"\.(?:antt|rt|py)`?:\d", text)) - len(REFERENCE.findall(text))
     yield "WHY.md, line numbers", f"{loose} stand behind no name" if loose else ""
 
@@ -345,7 +345,7 @@ class Names:
         self.parts: set[tuple[str, str]] = set()
         self.of: dict[str, set[str]] = {crate: set() for crate in self.crates}
         self.functions: set[tuple[str, str]] = set()
-        self.theorems = {declared.name for declared in declarations(ROOT / THEOREMS) if declared.part_of}
+        self.theorems = {part.name for file in THEOREMS for part in declarations(ROOT / file) if part.part_of}
         for crate in sorted(self.crates):
             self.read(crate)
         self.tests = {
@@ -394,7 +394,7 @@ class Names:
 
 
 def stray_theorems(cell: str, names: Names) -> list[str]:
-    """The names with a hyphen that stand neither in the file of theorems nor in the module named before them."""
+    """The names with a hyphen that stand neither in a file of theorems nor in the module named before them."""
     module, stray = "", []
     for name in TICKED.findall(cell):
         first, dot, last = name.rpartition(".")
@@ -424,7 +424,8 @@ def demands() -> Iterator[Test]:
         cells = line.split("|")
         wrong = [name for name in TICKED.findall(line) if not names.known(name)]
         wrong += [name for part in re.split("[;|]", line) for name in misplaced_names(part, names)]
-        wrong += [f"{name} in {THEOREMS}" for name in (stray_theorems(cells[3], names) if len(cells) > 4 else [])]
+        stray = stray_theorems(cells[3], names) if len(cells) > 4 else []
+        wrong += [f"{name} in {' or '.join(THEOREMS)}" for name in stray]
         if "`" in line:
             yield f"DEMANDS.md:{number}", f"does not exist: {', '.join(wrong)}" if wrong else ""
 
@@ -432,7 +433,7 @@ def demands() -> Iterator[Test]:
 def statements(text: str) -> Iterator[str]:
     """The types without parameters that state something: an equation, a bound or what follows from what."""
     for match in STATED.finditer(text):
-        if re.search("[≡≤→]", match[3]):
+        if re.search("[≡≤]|→(?! Type)", match[3]):
             yield match[1] or match[2]
 
 
@@ -536,7 +537,7 @@ def classroom() -> Iterator[Test]:
     yield "CLASSROOM.md, sheet", "" if len(shown) == 1 else f"the page has {shown}"
     now, goal = sheet_of(shown.pop())
     found = len(read(planning(1, now, goal)).pairs), reading.shortest(now, goal), len(reading.misplaced(now, goal))
-    numbers = re.search(r"`length p` = (\d+), `length r` = (\d+), .* = \d+, `misplacedCount s g` = (\d+)", text)
+    numbers = re.search(r"`length p` = (\d+), `length q` = (\d+), .* = \d+, `misplacedCount s g` = (\d+)", text)
     told = tuple(map(int, numbers.groups())) if numbers else ()
     yield "CLASSROOM.md, numbers", unlike(told, found)
     yield "CLASSROOM.md, list", "" if reading.replay(now, goal, [1, 3]) == (0, 0, 0) else "1→3 does not arrive"

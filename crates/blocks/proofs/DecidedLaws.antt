@@ -1,44 +1,26 @@
 -- The reflection of each row of document 01's questions, and what the questions put to a problem come to. Assumes nothing.
 use mathlib.Core.Path.{_≡_, refl, sym, _∙_}
-use mathlib.Core.Logic.{_⊎_, inl, inr, _≢_, _↔_, Iff·rfl, Iff·trans, Iff·and}
+use mathlib.Core.Logic.{_⊎_, inl, inr, _≢_, _↔_, Iff·trans}
 use mathlib.Core.Bool.{Bool}
-use mathlib.Core.List.{List, [], _∷_, _++_}
+use mathlib.Core.List.{List, _++_}
 use Prim.Native.Nat.{ℕ, zero, suc, pred, _%_, _≤_, _<_}
 use native.Mathlib.Omega.{arith}
 use lib.Dec.{eqb}
 use lib.ListN.{length}
 use Rattle.lists.specs.Search.{lowest}
 use Rattle.blocks.specs.State.{State, most, Block, support, Grounded}
-use Rattle.blocks.specs.Position.{Proper, Accepted}
+use Rattle.blocks.specs.Position.{Proper, Problem, Bounded}
 use Rattle.blocks.specs.Move.{Plan}
 use Rattle.blocks.specs.Method.{Outcome, plan, nothingToPutDown, methodOf}
-use Rattle.blocks.specs.Question.{Question, None, allYes, no′, firstNo, AllYes, numbers, IsMethod, isMethod, asksMethod, asksSize, asksSame}
+use Rattle.blocks.specs.Question.{None, allYes, firstNo, AllYes, IsMethod, isMethod, asksMethod, asksSize, asksSame}
 use Rattle.blocks.specs.Question.{Outside, outsideᵇ, firstOutside, asksOutside, Shared, sharedᵇ, firstShared, asksShared}
 use Rattle.blocks.specs.Question.{Floating, floatingᵇ, firstFloating, asksFloating, asksRoom, asksEven, isPlan, asksPlan}
-use Rattle.blocks.specs.Question.{stateQuestions, problemQuestions, planQuestions, deadlockQuestions, replayQuestions, Refused}
+use Rattle.blocks.specs.Question.{stateQuestions, listQuestions, problemQuestions}
 use Rattle.lists.proofs.ReflectLaws.{Reflects, holds, fails, from-true, from-false, not-not, reflects-not, reflects-and, reflects-iff, eqb-reflects, leb-reflects, ltb-reflects, same?}
 use Rattle.lists.proofs.SearchLaws.{lowest-le, lowest-passes, lowest-none, lowest-absent}
 use Rattle.blocks.proofs.StateLaws.{supported-block}
 use Rattle.blocks.proofs.GroundLaws.{grounded-test}
 use Rattle.blocks.proofs.QuestionLaws.{Decided, Decides, asks-decided, none-decided, first-no, decides-append, all-yes-append}
-
--- ---- the order asked
-
-pub problem-order : (s g : State) → numbers (problemQuestions s g) ≡ 2 ∷ 3 ∷ 4 ∷ 5 ∷ 6 ∷ 7 ∷ 8 ∷ 9 ∷ []
-unfolding problemQuestions stateQuestions asksSize asksSame asksOutside asksShared asksFloating
-problem-order s g = refl
-
-pub plan-order : (m : ℕ) (s g : State) (space : List ℕ) → numbers (planQuestions m s g space) ≡ 1 ∷ 2 ∷ 3 ∷ 4 ∷ 5 ∷ 6 ∷ 7 ∷ 8 ∷ 9 ∷ 10 ∷ 13 ∷ []
-unfolding planQuestions problemQuestions stateQuestions asksMethod asksSize asksSame asksOutside asksShared asksFloating asksRoom asksPlan
-plan-order m s g space = refl
-
-pub deadlock-order : (s g : State) (space : List ℕ) → numbers (deadlockQuestions s g space) ≡ 2 ∷ 3 ∷ 4 ∷ 5 ∷ 6 ∷ 7 ∷ 8 ∷ 9 ∷ 10 ∷ []
-unfolding deadlockQuestions problemQuestions stateQuestions asksSize asksSame asksOutside asksShared asksFloating asksRoom
-deadlock-order s g space = refl
-
-pub replay-order : (s g : State) (lifts : List ℕ) → numbers (replayQuestions s g lifts) ≡ 2 ∷ 3 ∷ 4 ∷ 5 ∷ 6 ∷ 7 ∷ 8 ∷ 9 ∷ 11 ∷ []
-unfolding replayQuestions problemQuestions stateQuestions asksSize asksSame asksOutside asksShared asksFloating asksEven
-replay-order s g lifts = refl
 
 -- ---- questions 1 to 3
 
@@ -182,37 +164,29 @@ state-yes k₁ k₂ k₃ s = (λ y. record { entries = entries-fit s (y .0); car
             let same : m .other ≡ b = w .carries (m .other) b (m .same) (λ z. m .off (sym (m .same) ∙ z)) in
             omega (arith, m .lower)
 
--- ---- a problem: questions 2 to 9
+-- ---- a problem: questions 3 to 9, and 2 to 9
 
 module _ (s g : State) where
-  pub problem-decides : Decides (problemQuestions s g)
-  unfolding problemQuestions
-  problem-decides =
-      let states = decides-append (stateQuestions 4 5 6 s) (stateQuestions 7 8 9 g) (state-decides 4 5 6 s) (λ _. state-decides 7 8 9 g) in
-      (size-decided (length s), λ _. (same-decided s g, λ _. states))
+  pub list-decides : Decides (listQuestions s g)
+  unfolding listQuestions
+  list-decides =
+      (same-decided s g, λ _. decides-append (stateQuestions 4 5 6 s) (stateQuestions 7 8 9 g) (state-decides 4 5 6 s) (λ _. state-decides 7 8 9 g))
 
-  pub problem-yes : AllYes (problemQuestions s g) ↔ Accepted s g
-  unfolding problemQuestions asksSize asksSame
-  problem-yes = (into, λ a. (a .small, (a .problem .same, both .1 (state-yes 4 5 6 s .1 (a .problem .initial), state-yes 7 8 9 g .1 (a .problem .goal)))))
+  pub list-yes : AllYes (listQuestions s g) ↔ Problem s g
+  unfolding listQuestions asksSame
+  list-yes = (into, λ w. (w .same, both .1 (state-yes 4 5 6 s .1 (w .initial), state-yes 7 8 9 g .1 (w .goal))))
     where
       both : AllYes (stateQuestions 4 5 6 s ++ stateQuestions 7 8 9 g) ↔ (AllYes (stateQuestions 4 5 6 s) × AllYes (stateQuestions 7 8 9 g))
       both = all-yes-append (stateQuestions 4 5 6 s) (stateQuestions 7 8 9 g)
 
-      into : (length s ≤ most) × ((length g ≡ length s) × AllYes (stateQuestions 4 5 6 s ++ stateQuestions 7 8 9 g)) → Accepted s g
-      into y =
-          let z = both .0 (y .1 .1) in
-          record { small = y .0; problem = record { initial = state-yes 4 5 6 s .0 (z .0); goal = state-yes 7 8 9 g .0 (z .1); same = y .1 .0 } }
+      into : (length g ≡ length s) × AllYes (stateQuestions 4 5 6 s ++ stateQuestions 7 8 9 g) → Problem s g
+      into y = let z = both .0 (y .1) in record { initial = state-yes 4 5 6 s .0 (z .0); goal = state-yes 7 8 9 g .0 (z .1); same = y .0 }
 
-  -- with other questions behind them
-  pub then-decides : (rs : List Question) → Decides rs → Decides (problemQuestions s g ++ rs)
-  then-decides rs d = decides-append (problemQuestions s g) rs problem-decides (λ _. d)
+  pub problem-yes : AllYes (problemQuestions s g) ↔ Bounded s g
+  unfolding problemQuestions asksSize
+  problem-yes = (λ y. record { small = y .0; problem = list-yes .0 (y .1) }, λ w. (w .small, list-yes .1 (w .problem)))
 
-  pub then-yes : (rs : List Question) → AllYes (problemQuestions s g ++ rs) ↔ (Accepted s g × AllYes rs)
-  then-yes rs = Iff·trans (all-yes-append (problemQuestions s g) rs) (Iff·and problem-yes Iff·rfl)
-
--- all yes exactly on accepted problems, and a "no" has number k and place p exactly where that is the first question that fails, at its lowest block
-pub accepts : (s g : State) → (firstNo (problemQuestions s g) ≡ allYes) ↔ Accepted s g
-accepts s g = Iff·trans (first-no (problemQuestions s g) (problem-decides s g) allYes) (problem-yes s g)
-
-pub refuses : (s g : State) (k p : ℕ) → (firstNo (problemQuestions s g) ≡ no′ k p) ↔ Refused s g k p
-refuses s g k p = first-no (problemQuestions s g) (problem-decides s g) (no′ k p)
+  -- all yes exactly on problems of that size
+  pub accepts : (firstNo (problemQuestions s g) ≡ allYes) ↔ Bounded s g
+  unfolding problemQuestions
+  accepts = Iff·trans (first-no (problemQuestions s g) (size-decided (length s), λ _. list-decides) allYes) problem-yes

@@ -6,10 +6,9 @@ use mathlib.Core.Option.{none, some}
 use Prim.Native.Nat.{ℕ}
 use lib.ListN.{length}
 use Rattle.blocks.specs.State.{State, support, put}
-use Rattle.blocks.specs.Position.{Accepted}
-use Rattle.blocks.specs.Move.{_⟶_, Plan, CarefulPlan, Solves}
+use Rattle.blocks.specs.Move.{_⟶_, Plan, CarefulPlan}
 use Rattle.blocks.specs.Question.{None, AllYes}
-use Rattle.blocks.specs.Length.{Lengths, lengthOf, Fits, FittingPlan, SolvesWith, Overhangs, Level, MeasuredIf, AcceptedWith}
+use Rattle.blocks.specs.Length.{Lengths, lengthOf, Fits, FittingPlan, Overhangs, Level, MeasuredIf}
 use Rattle.blocks.specs.Length.{fitsᵇ, asksLengths, overhangsᵇ, firstOverhang, asksOverhang, overhangQuestions, lengthQuestions}
 use Rattle.lists.proofs.ReflectLaws.{Reflects, not-not, reflects-not, reflects-or, eqb-reflects, leb-reflects}
 use Rattle.blocks.proofs.StateLaws.{supported-block}
@@ -35,17 +34,11 @@ careful-fits ls ((a ⟶ x) ∷ p) s g v c = (by (c .0 .target), careful-fits ls 
     by (inl e) = rw e (fits-table ls a)
     by (inr e) = rw e (v .fits a)
 
--- ---- without lengths every plan fits, and every accepted problem is accepted
+-- ---- without lengths every plan fits
 
 pub plan-fits : (p : Plan) → FittingPlan none p
 plan-fits [] = tt
 plan-fits ((a ⟶ x) ∷ p) = (tt, plan-fits p)
-
-pub solves-any : {s g : State} {p : Plan} → Solves s g p → SolvesWith none s g p
-solves-any {s} {g} {p} h = record { solves = h; fits = plan-fits p }
-
-pub accepted-any : {s g : State} → Accepted s g → AcceptedWith none s g
-accepted-any a = record { accepted = a; measured = tt }
 
 -- ---- questions 16, 17 and 18
 

@@ -1,5 +1,5 @@
 -- Lists of questions compute what their sentences say: the law, over any rows. Assumes nothing.
-use mathlib.Core.Path.{_≡_, refl, sym, _∙_, subst}
+use mathlib.Core.Path.{_≡_, refl, sym, ap, _∙_, subst}
 use mathlib.Core.Logic.{_⊎_, inl, inr, _≢_, _↔_}
 use mathlib.Core.Bool.{Bool, true, false, cond, _||_, true≢false}
 use mathlib.Core.List.{List, [], _∷_, _++_}
@@ -135,6 +135,10 @@ first-no-front (q ∷ qs) rs k p e = by (q .test) e (λ f. first-no-front qs rs 
     by true e rest = rest e
     by false e rest = e
 
+pub first-no-same : (qs rs rs′ : List Question) → firstNo rs ≡ firstNo rs′ → firstNo (qs ++ rs) ≡ firstNo (qs ++ rs′)
+first-no-same [] rs rs′ e = e
+first-no-same (q ∷ qs) rs rs′ e = ap (λ v. cond (q .test) v (no′ (q .number) (q .place))) (first-no-same qs rs rs′ e)
+
 -- ---- every "no" has the number of one of its rows
 
 -- so a number that no row has is not given
@@ -146,3 +150,17 @@ other-number (q ∷ qs) j m k p f e = by (eqb-reflects j (q .number)) m f (λ h 
     by (holds i) h f rest = true≢false h
     by (fails n) h (inl (i, f)) rest = n (sym e ∙ i)
     by (fails n) h (inr (y, r)) rest = rest h r
+
+-- Every row has a number of the list; and then every "no" has.
+abbrev pub Among : List ℕ → List Question → Type 0
+Among ns [] = Unit {0}
+Among ns (q ∷ qs) = (memberᵇ (q .number) ns ≡ true) × Among ns qs
+
+pub among-append : (ns : List ℕ) (qs rs : List Question) → Among ns qs → Among ns rs → Among ns (qs ++ rs)
+among-append ns [] rs a b = b
+among-append ns (q ∷ qs) rs a b = (a .0, among-append ns qs rs (a .1) b)
+
+pub number-among : (ns : List ℕ) (qs : List Question) → Among ns qs → (k p : ℕ) → FirstNo qs k p → memberᵇ k ns ≡ true
+number-among ns [] a k p f = absurd f
+number-among ns (q ∷ qs) a k p (inl (e, f)) = ap (λ j. memberᵇ j ns) e ∙ a .0
+number-among ns (q ∷ qs) a k p (inr (y, r)) = number-among ns qs (a .1) k p r

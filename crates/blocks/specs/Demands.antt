@@ -1,56 +1,55 @@
--- The theorems, statements alone: the three demands (docs/SPECIFICATION.md), and what later work stands on. Quotations are of the demands, or of document 01
--- where it is named. proofs/Theorems proves the whole record. Assumes nothing.
+-- The theorems on two states, statements alone: the tests, the methods, the deadlock test, demand 3, and what later work stands on. SheetDemands has those on
+-- sheets and operations. Quotations are of the demands (docs/SPECIFICATION.md), or of document 01 where it is named. proofs/Theorems proves the whole record.
 -- Read `Problem` as a sheet that is accepted (questions 3 to 9; no bound on the number of blocks is needed), `Solves` as a legal list that arrives.
+-- Assumes nothing.
 use Prim.Native.Nat.{ℕ, _+_, _*_, _%_, _≤_, _<_}
 use mathlib.Core.Path.{_≡_}
 use mathlib.Core.Logic.{_≢_, _↔_}
 use mathlib.Core.Bool.{true}
-use mathlib.Core.List.{List, [], _∷_, _++_}
-use lib.ListN.{length, getD, take, drop}
+use mathlib.Core.List.{List}
+use lib.ListN.{length, getD}
 use Rattle.blocks.specs.State.{State, support, Above, Clear, Grounded}
 use Rattle.lists.specs.Search.{Counts}
-use Rattle.blocks.specs.Position.{Proper, Problem, Accepted, InPosition, Misplaced, Nearest, Position, Positioned}
+use Rattle.blocks.specs.Position.{Proper, Problem, InPosition, Misplaced, Nearest, Position, Positioned}
 use Rattle.blocks.specs.Move.{Plan, CarefulPlan, Moved, Solves, after}
 use Rattle.blocks.specs.Tests.{clearᵇ, groundedᵇ, position, inPositionᵇ, nearest, waitingᵇ, readyᵇ, perchedᵇ, misplacedCount, measure}
 use Rattle.blocks.specs.Deadlock.{next, Deadlock, Deadlocked}
 use Rattle.blocks.specs.Loop.{lastMisplaced, blocker, successor, loop, shownWidth}
 use Rattle.blocks.specs.Stall.{Waiting, Perched, Twice, Ready, NoneReady, IsLoop}
 use Rattle.blocks.specs.Steps.{Stalled, Foot, LoopOf, ByBuilding, By, ByTest}
-use Rattle.blocks.specs.Method.{Method, Us, plan, outcome, numberOf, deadlockLoop, deadlockRows}
-use Rattle.blocks.specs.Question.{allYes, no′, firstNo, numbers, IsMethod, problemQuestions, planQuestions, deadlockQuestions, replayQuestions}
-use Rattle.blocks.specs.Question.{Refused, PlanRefused, DeadlockRefused, ReplayRefused}
-use Rattle.blocks.specs.Replay.{moveQuestions, Replayed}
-use Rattle.blocks.specs.Answer.{PlanAnswer, flat, moves, writtenPlan}
-use Rattle.blocks.specs.Answer.{checkAnswer, planAnswer, planSpace, deadlockAnswer, deadlockSpace, noVerdict, replayFrom, replayAnswer}
+use Rattle.blocks.specs.Method.{Method, Us, plan, outcome, deadlockLoop, deadlockRows}
+use Rattle.blocks.specs.Answer.{flat, moves}
 
 -- "without a deadlock at the start": no blocks are deadlocked.
 abbrev pub NoDeadlock : State → State → Type 0
 NoDeadlock s g = (blocks : List ℕ) → ¬ Deadlocked s g blocks
 
+-- What is promised of plans is said of the problem of s and g, and of which plans arrive: `Solves s g`, or with a sheet's options `Arrives h` of Sheet.
+
 -- The fewest moves that could do: some legal plan that arrives has so many, and none has fewer.
-pub record Fewest (s g : State) (k : ℕ) : Type 0 where
-  pub some : (q : Plan) × Solves s g q × (length q ≡ k)
-  pub least : (q : Plan) → Solves s g q → k ≤ length q
+pub record Fewest (Arrives : Plan → Type 0) (k : ℕ) : Type 0 where
+  pub some : (q : Plan) × Arrives q × (length q ≡ k)
+  pub least : (q : Plan) → Arrives q → k ≤ length q
 
 -- What the count of misplaced blocks promises. Document 02, Job 2: "Crews take the second field of PL as the fewest lifts that could do."
-pub record HeadCount (s g : State) (k : ℕ) : Type 0 where
+pub record HeadCount (Arrives : Plan → Type 0) (s g : State) (k : ℕ) : Type 0 where
   -- so many blocks are misplaced at the start;
   pub counts : Counts (Misplaced s g) (length s) k
   -- no legal plan that arrives is shorter;
-  pub floor : (q : Plan) → Solves s g q → k ≤ length q
+  pub floor : (q : Plan) → Arrives q → k ≤ length q
   -- and it is the fewest exactly when nothing is deadlocked at the start.
-  pub fewest : Fewest s g k ↔ NoDeadlock s g
+  pub fewest : Fewest Arrives k ↔ NoDeadlock s g
 
 -- Demand 3 of a plan p that method m writes.
-pub record Promise (m : Method) (s g : State) (p : Plan) : Type 0 where
+pub record Promise (Arrives : Plan → Type 0) (m : Method) (s g : State) (p : Plan) : Type 0 where
   -- "Every list written for an accepted sheet is legal and arrives."
-  pub solves : Solves s g p
+  pub arrives : Arrives p
   -- "For any legal list that arrives, of L lifts: US, GN1 and GN2 write at most 2 × L";
-  pub twice : (q : Plan) → Solves s g q → length p ≤ 2 * length q
+  pub twice : (q : Plan) → Arrives q → length p ≤ 2 * length q
   -- "without a deadlock at the start GN1 and GN2 write at most L";
-  pub once : m ≢ Us → NoDeadlock s g → (q : Plan) → Solves s g q → length p ≤ length q
+  pub once : m ≢ Us → NoDeadlock s g → (q : Plan) → Arrives q → length p ≤ length q
   -- "with one, L is more than the number of slabs misplaced at the start."
-  pub costs : (blocks : List ℕ) → Deadlocked s g blocks → (q : Plan) → Solves s g q → misplacedCount s g < length q
+  pub costs : (blocks : List ℕ) → Deadlocked s g blocks → (q : Plan) → Arrives q → misplacedCount s g < length q
 
 -- What else holds of the plan that method m writes: later work stands on it.
 pub record Economy (m : Method) (s g : State) (p : Plan) : Type 0 where
@@ -70,15 +69,6 @@ pub record AllDownTakes (s g : State) (k : ℕ) : Type 0 where
   pub misplaced : Counts (Misplaced s g) (length s) once
   pub twice : Counts (Twice s g) (length s) again
   pub sum : k ≡ once + again
-
--- Document 02, Job 4, of one problem planned by method 1 and by any method: what each answers, and the space as it leaves it.
-pub record BesideUs (s g : State) (us : PlanAnswer) (us-space : List ℕ) (any : PlanAnswer) (any-space : List ℕ) : Type 0 where
-  -- "method 1 writes the misplaced slabs plus those misplaced slabs that are off the ground both now and in the goal";
-  pub exact : length (writtenPlan us us-space) ≡ measure s g
-  pub exact-count : us .count ≡ measure s g
-  -- "methods 2 and 3 write no more lifts than method 1".
-  pub no-more : length (writtenPlan any any-space) ≤ length (writtenPlan us us-space)
-  pub no-more-count : any .count ≤ us .count
 
 -- What the deadlock test shows, in document 01's letters: the blocks of the loop are b1 to bp, and beside each stands the next d, and c.
 pub record Shown (s g : State) (blocks rows : List ℕ) : Type 0 where
@@ -106,47 +96,6 @@ pub record Theorems : Type 0 where
   pub waiting-test : (s g : State) → Proper s → (b : ℕ) → (waitingᵇ s g b ≡ true) ↔ Waiting s g b
   pub perched-test : (s g : State) → Proper s → (b : ℕ) → (perchedᵇ s g b ≡ true) ↔ Perched s g b
   pub grounded-test : (s : State) → ((b : ℕ) → support s b ≤ length s) → (b : ℕ) → b ≤ length s → (groundedᵇ s b ≡ true) ↔ Grounded s b
-  -- ---- demand 1: refusals
-  -- the order asked; of a move, the verdicts
-  pub problem-order : (s g : State) → numbers (problemQuestions s g) ≡ 2 ∷ 3 ∷ 4 ∷ 5 ∷ 6 ∷ 7 ∷ 8 ∷ 9 ∷ []
-  pub plan-order : (m : ℕ) (s g : State) (space : List ℕ)
-      → numbers (planQuestions m s g space) ≡ 1 ∷ 2 ∷ 3 ∷ 4 ∷ 5 ∷ 6 ∷ 7 ∷ 8 ∷ 9 ∷ 10 ∷ 13 ∷ []
-  pub deadlock-order : (s g : State) (space : List ℕ) → numbers (deadlockQuestions s g space) ≡ 2 ∷ 3 ∷ 4 ∷ 5 ∷ 6 ∷ 7 ∷ 8 ∷ 9 ∷ 10 ∷ []
-  pub replay-order : (s g : State) (lifts : List ℕ) → numbers (replayQuestions s g lifts) ≡ 2 ∷ 3 ∷ 4 ∷ 5 ∷ 6 ∷ 7 ∷ 8 ∷ 9 ∷ 11 ∷ []
-  pub move-order : (s : State) (a x : ℕ) → numbers (moveQuestions s a x) ≡ 1 ∷ 2 ∷ 3 ∷ 4 ∷ []
-  -- questions 2 to 9 are all answered yes exactly on accepted problems; the first "no" is what the sentences say
-  pub accepts : (s g : State) → (firstNo (problemQuestions s g) ≡ allYes) ↔ Accepted s g
-  pub refuses : (s g : State) (k p : ℕ) → (firstNo (problemQuestions s g) ≡ no′ k p) ↔ Refused s g k p
-  -- with a method and enough space planning is answered, with enough space the deadlock test, and with an even list replay
-  pub plan-accepts : (m : ℕ) (s g : State) (space : List ℕ)
-      → (firstNo (planQuestions m s g space) ≡ allYes) ↔ (IsMethod m × Accepted s g × (4 * length s ≤ length space))
-  pub deadlock-accepts : (s g : State) (space : List ℕ)
-      → (firstNo (deadlockQuestions s g space) ≡ allYes) ↔ (Accepted s g × (shownWidth * length s ≤ length space))
-  pub replay-accepts : (s g : State) (lifts : List ℕ) → (firstNo (replayQuestions s g lifts) ≡ allYes) ↔ (Accepted s g × (length lifts % 2 ≡ 0))
-  -- a check answers 0 and 0 exactly on accepted problems, and otherwise the first "no"
-  pub check-accepts : (s g : State) → (checkAnswer s g ≡ record { number = 0; place = 0 }) ↔ Accepted s g
-  pub check-refuses : (s g : State) (k p : ℕ) → Refused s g k p → checkAnswer s g ≡ record { number = k; place = p }
-  pub plan-refuses : (m : ℕ) (s g : State) (space : List ℕ) (k p : ℕ) → (firstNo (planQuestions m s g space) ≡ no′ k p) ↔ PlanRefused m s g space k p
-  pub deadlock-refuses : (s g : State) (space : List ℕ) (k p : ℕ) → (firstNo (deadlockQuestions s g space) ≡ no′ k p) ↔ DeadlockRefused s g space k p
-  pub replay-refuses : (s g : State) (lifts : List ℕ) (k p : ℕ) → (firstNo (replayQuestions s g lifts) ≡ no′ k p) ↔ ReplayRefused s g lifts k p
-  -- a refusal answers its number and place, counts 0, and leaves the lent space as it was
-  pub plan-refusal : (m : ℕ) (s g : State) (space : List ℕ) (k p : ℕ) → PlanRefused m s g space k p
-      → (planAnswer m s g space ≡ record { number = k; place = p; count = 0; misplaced = 0 }) × (planSpace m s g space ≡ space)
-  pub deadlock-refusal : (s g : State) (space : List ℕ) (k p : ℕ) → DeadlockRefused s g space k p
-      → (deadlockAnswer s g space ≡ record { number = k; place = p; count = 0 }) × (deadlockSpace s g space ≡ space)
-  pub replay-refusal : (s g : State) (lifts : List ℕ) (k p : ℕ) → ReplayRefused s g lifts k p
-      → replayAnswer s g lifts ≡ record { number = k; verdict = noVerdict; place = p }
-  -- and otherwise the answer is given, with what the lent space then holds
-  pub plan-answers : (m : Method) (s g : State) (space : List ℕ) → Accepted s g → 4 * length s ≤ length space → (p : Plan) → outcome m s g ≡ plan p
-      → (planAnswer (numberOf m) s g space ≡ record { number = 0; place = 0; count = length p; misplaced = misplacedCount s g })
-      × (planSpace (numberOf m) s g space ≡ flat p ++ drop (2 * length p) space)
-  pub deadlock-answers : (s g : State) (space : List ℕ) → Accepted s g → shownWidth * length s ≤ length space
-      → (deadlockAnswer s g space ≡ record { number = 0; place = 0; count = length (deadlockLoop s g) })
-      × (deadlockSpace s g space ≡ deadlockRows s g ++ drop (shownWidth * length (deadlockLoop s g)) space)
-  pub replay-answers : (s g : State) (lifts : List ℕ) → Accepted s g → length lifts % 2 ≡ 0 → (v k : ℕ)
-      → (replayAnswer s g lifts ≡ record { number = 0; verdict = v; place = k }) ↔ Replayed s g (moves lifts) v k
-  -- question 13 is never answered no
-  pub never-13 : (m : ℕ) (s g : State) (space : List ℕ) (p : ℕ) → ¬ PlanRefused m s g space 13 p
   -- ---- lists of numbers as lists of moves
   pub pairs-back : (p : Plan) → moves (flat p) ≡ p
   pub pairs-forth : (l : List ℕ) → length l % 2 ≡ 0 → flat (moves l) ≡ l
@@ -155,20 +104,7 @@ pub record Theorems : Type 0 where
   pub methods : (m : Method) (s g : State) → Problem s g → (p : Plan) → (outcome m s g ≡ plan p) ↔ By m s g p
   pub methods-only : (m : Method) (s g : State) → Problem s g → (p q : Plan) → By m s g p → By m s g q → p ≡ q
   pub loop-told : (s g : State) → Problem s g → Stalled s g → (l : List ℕ) → (loop s g ≡ l) ↔ LoopOf s g l
-  -- the list written into the lent space is that plan
-  pub written-told : (m : Method) (s g : State) (space : List ℕ) → Accepted s g → 4 * length s ≤ length space
-      → By m s g (writtenPlan (planAnswer (numberOf m) s g space) (planSpace (numberOf m) s g space))
-  -- ---- demand 2: replay and the deadlock test
-  -- each verdict and place exactly where its sentence holds; verdict 0 exactly when the plan is legal and ends in the goal
-  pub replay-verdict : (s g : State) → length g ≡ length s → (p : Plan) (v k : ℕ)
-      → (replayFrom 1 s g p ≡ record { number = 0; verdict = v; place = k }) ↔ Replayed s g p v k
-  pub replay-arrives : (s g : State) → length g ≡ length s → (p : Plan) → ((replayFrom 1 s g p) .verdict ≡ 0) ↔ Solves s g p
-  pub replay-says : (s g : State) (lifts : List ℕ)
-      → (replayAnswer s g lifts ≡ record { number = 0; verdict = 0; place = 0 }) ↔ (Accepted s g × (length lifts % 2 ≡ 0) × Solves s g (moves lifts))
-  -- verdict 0 alone says it: what a refused replay has in place of a verdict is the verdict of no plan
-  pub replay-zero : (s g : State) (lifts : List ℕ)
-      → ((replayAnswer s g lifts) .verdict ≡ 0) ↔ (Accepted s g × (length lifts % 2 ≡ 0) × Solves s g (moves lifts))
-  pub no-verdict : (s g : State) (p : Plan) (k : ℕ) → ¬ Replayed s g p noVerdict k
+  -- ---- demand 2: the deadlock test
   -- document 01's c and d of a misplaced block; d is misplaced
   pub last-misplaced : (s g : State) → Problem s g → (b : ℕ) → Misplaced s g b
       → Foot s g b (nearest s g b) (lastMisplaced s g b) × Misplaced s g (lastMisplaced s g b)
@@ -184,20 +120,13 @@ pub record Theorems : Type 0 where
       → (i : ℕ) → i < length blocks → getD rows (shownWidth * i + 2) 0 ≡ getD rows′ (shownWidth * i + 2) 0
   -- what it writes is what its words give, and they give no other answer
   pub deadlock-told : (s g : State) → Problem s g → (l rows : List ℕ) → ((deadlockLoop s g ≡ l) × (deadlockRows s g ≡ rows)) ↔ ByTest s g l rows
-  -- and so is what stands in the lent space
-  pub deadlock-written : (s g : State) (space : List ℕ) → Accepted s g → shownWidth * length s ≤ length space
-      → (l : List ℕ) × (length l ≡ (deadlockAnswer s g space) .count)
-      × ByTest s g l (take (shownWidth * (deadlockAnswer s g space) .count) (deadlockSpace s g space))
   pub deadlock-fits : (s g : State) → Problem s g → length (deadlockRows s g) ≤ shownWidth * length s
   -- ---- demand 3: every method gives a plan, and keeps the promise
-  pub demand : (m : Method) (s g : State) → Problem s g → (p : Plan) × (outcome m s g ≡ plan p) × Promise m s g p × Economy m s g p
-  -- the list written into the lent space is that plan: it is legal and arrives
-  pub written-solves : (m : Method) (s g : State) (space : List ℕ) → Accepted s g → 4 * length s ≤ length space
-      → Solves s g (writtenPlan (planAnswer (numberOf m) s g space) (planSpace (numberOf m) s g space))
+  pub demand : (m : Method) (s g : State) → Problem s g → (p : Plan) × (outcome m s g ≡ plan p) × Promise (Solves s g) m s g p × Economy m s g p
   pub plan-fits : (m : Method) (s g : State) → Problem s g → (p : Plan) → outcome m s g ≡ plan p → 2 * length p ≤ 4 * length s
   -- every legal plan that arrives moves every misplaced block; what their number promises
   pub moves-all : (s g : State) → Problem s g → (q : Plan) → Solves s g q → (b : ℕ) → Misplaced s g b → Moved b q
-  pub head-count : (s g : State) → Problem s g → HeadCount s g (misplacedCount s g)
+  pub head-count : (s g : State) → Problem s g → HeadCount (Solves s g) s g (misplacedCount s g)
   -- ---- document 02, Job 4: better than putting all down
   -- the number that it names is what the measure computes
   pub all-down : (s g : State) → Problem s g → AllDownTakes s g (measure s g)
@@ -205,6 +134,3 @@ pub record Theorems : Type 0 where
   pub us-exact : (s g : State) → Problem s g → (p : Plan) → By Us s g p → length p ≡ measure s g
   -- and "on every accepted sheet methods 2 and 3 write no more lifts than method 1";
   pub no-more-than-us : (m : Method) (s g : State) → Problem s g → (p q : Plan) → By m s g p → By Us s g q → length p ≤ length q
-  -- so both hold of the lists that planning writes and of the counts that it answers, whatever space each call is lent, if it is enough
-  pub beside-us : (m : Method) (s g : State) (one space : List ℕ) → Accepted s g → 4 * length s ≤ length one → 4 * length s ≤ length space
-      → BesideUs s g (planAnswer 1 s g one) (planSpace 1 s g one) (planAnswer (numberOf m) s g space) (planSpace (numberOf m) s g space)

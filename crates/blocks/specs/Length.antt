@@ -10,8 +10,7 @@ use lib.Dec.{leb, eqb}
 use lib.ListN.{length}
 use Rattle.lists.specs.Search.{lowest}
 use Rattle.blocks.specs.State.{State, support}
-use Rattle.blocks.specs.Position.{Accepted}
-use Rattle.blocks.specs.Move.{_⟶_, Plan, LegalPlan, Solves}
+use Rattle.blocks.specs.Move.{_⟶_, Plan, LegalPlan}
 use Rattle.blocks.specs.Question.{Question, asks, asksNone}
 
 -- A problem has lengths or has none. An empty list is lengths too, those of no blocks.
@@ -41,13 +40,8 @@ FittingPlan ls [] = Unit {0}
 FittingPlan ls ((a ⟶ x) ∷ p) = Fits ls a x × FittingPlan ls p
 
 -- A plan whose every move is legal under the rule: it is legal, and it fits.
-pub record LegalPlanWith (ls : Lengths) (s : State) (p : Plan) : Type 0 where
+pub record LegalUnder (ls : Lengths) (s : State) (p : Plan) : Type 0 where
   pub legal : LegalPlan s p
-  pub fits : FittingPlan ls p
-
--- Such a plan that arrives.
-pub record SolvesWith (ls : Lengths) (s g : State) (p : Plan) : Type 0 where
-  pub solves : Solves s g p
   pub fits : FittingPlan ls p
 
 -- ---- what is asked of the lengths
@@ -74,11 +68,6 @@ MeasuredIf (some l) s g = Measured l s g
 abbrev pub Counted : Lengths → State → Type 0
 Counted none s = Unit {0}
 Counted (some l) s = length l ≡ length s
-
--- "Accepted asks these too."
-pub record AcceptedWith (ls : Lengths) (s g : State) : Type 0 where
-  pub accepted : Accepted s g
-  pub measured : MeasuredIf ls s g
 
 -- ---- questions 16, 17 and 18
 

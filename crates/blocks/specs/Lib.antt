@@ -8,13 +8,10 @@ pub mod Stall
 pub mod Method
 pub mod Steps
 pub mod Question
+pub mod Length
+pub mod Sheet
 pub mod Replay
 pub mod Answer
 pub mod Demands
-pub mod Length
-pub mod With
-pub mod WithDemands
-pub mod Panel
-pub mod PanelDemands
+pub mod SheetDemands
 pub mod Sheets
-pub mod WithSheets

@@ -21,8 +21,8 @@ pub record Problem (s g : State) : Type 0 where
   pub goal : Proper g
   pub same : length g ≡ length s
 
--- document 01: "In demand 3 a sheet is accepted when questions 2 to 9 below all get a yes."
-pub record Accepted (s g : State) : Type 0 where
+-- A problem of a size that the operations take: what the work on a sheet that is accepted may rely on.
+pub record Bounded (s g : State) : Type 0 where
   pub small : length s ≤ most
   pub problem : Problem s g
 

@@ -1,6 +1,6 @@
 -- The questions put to a sheet, in order (document 01, "Questions put to a sheet, in order"): a question is a row, and what an operation asks is a list of rows.
 -- Assumes nothing.
-use Prim.Native.Nat.{ℕ, pred, _*_, _%_, _≤_, _<_}
+use Prim.Native.Nat.{ℕ, pred, _%_, _≤_, _<_}
 use mathlib.Core.Path.{_≡_}
 use mathlib.Core.Logic.{_≢_, _⊎_}
 use mathlib.Core.Bool.{Bool, true, false, cond, not, _&&_}
@@ -12,8 +12,7 @@ use Rattle.lists.specs.Search.{lowest, Lowest}
 use Rattle.blocks.specs.State.{State, most, support, Grounded}
 use Rattle.blocks.specs.Move.{Plan}
 use Rattle.blocks.specs.Tests.{groundedᵇ}
-use Rattle.blocks.specs.Loop.{shownWidth}
-use Rattle.blocks.specs.Method.{Outcome, plan, nothingToPutDown, Method, methodOf, planOutcome}
+use Rattle.blocks.specs.Method.{Outcome, plan, nothingToPutDown, Method, methodOf}
 
 -- ---- rows
 
@@ -151,34 +150,24 @@ isPlan nothingToPutDown = false
 unfoldable pub asksPlan : Outcome → Question
 asksPlan o = asks 13 ((p : Plan) × (o ≡ plan p)) (isPlan o)
 
--- ---- what is asked of a state and of a problem, and by each operation
+-- ---- question 19 (document 02, Job 5), "directly after 2"
+
+-- 19. "for more than 600 by the panel's entry": are n blocks no more than the entry takes?
+unfoldable pub asksLimit : ℕ → ℕ → Question
+asksLimit limit n = asks 19 (n ≤ limit) (leb n limit)
+
+-- Put by an entry that has a limit of its own.
+unfoldable pub limitQuestions : Option ℕ → ℕ → List Question
+limitQuestions none n = []
+limitQuestions (some limit) n = asksLimit limit n ∷ []
+
+-- ---- what is asked of a state, and of two lists: 3 to 9, and 2 to 9
 
 unfoldable pub stateQuestions : ℕ → ℕ → ℕ → State → List Question
 stateQuestions k₁ k₂ k₃ s = asksOutside k₁ s ∷ asksShared k₂ s ∷ asksFloating k₃ s ∷ []
 
+unfoldable pub listQuestions : State → State → List Question
+listQuestions s g = asksSame s g ∷ (stateQuestions 4 5 6 s ++ stateQuestions 7 8 9 g)
+
 unfoldable pub problemQuestions : State → State → List Question
-problemQuestions s g = asksSize (length s) ∷ asksSame s g ∷ (stateQuestions 4 5 6 s ++ stateQuestions 7 8 9 g)
-
--- "Planning needs 4 × n numbers of lent space, the deadlock test 2 × n"; of the latter document 02, Job 6: "its space is now 3 × n".
-unfoldable pub planQuestions : ℕ → State → State → List ℕ → List Question
-planQuestions m s g space = asksMethod m ∷ (problemQuestions s g ++ (asksRoom (4 * length s) space ∷ asksPlan (planOutcome m s g) ∷ []))
-
-unfoldable pub deadlockQuestions : State → State → List ℕ → List Question
-deadlockQuestions s g space = problemQuestions s g ++ (asksRoom (shownWidth * length s) space ∷ [])
-
-unfoldable pub replayQuestions : State → State → List ℕ → List Question
-replayQuestions s g lifts = problemQuestions s g ++ (asksEven lifts ∷ [])
-
--- ---- the refusals: the first "no" has number k and place p
-
-abbrev pub Refused : State → State → ℕ → ℕ → Type 0
-Refused s g k p = FirstNo (problemQuestions s g) k p
-
-abbrev pub PlanRefused : ℕ → State → State → List ℕ → ℕ → ℕ → Type 0
-PlanRefused m s g space k p = FirstNo (planQuestions m s g space) k p
-
-abbrev pub DeadlockRefused : State → State → List ℕ → ℕ → ℕ → Type 0
-DeadlockRefused s g space k p = FirstNo (deadlockQuestions s g space) k p
-
-abbrev pub ReplayRefused : State → State → List ℕ → ℕ → ℕ → Type 0
-ReplayRefused s g lifts k p = FirstNo (replayQuestions s g lifts) k p
+problemQuestions s g = asksSize (length s) ∷ listQuestions s g

@@ -1,4 +1,4 @@
--- The deadlock test whole: what each way out of `deadlock_with` answers, and what a checked problem with room lends to `test`. Assumes nothing.
+-- The deadlock test whole: what each way out of `deadlock` answers, and what a checked sheet with room lends to `test`. Assumes nothing.
 use Prim.Native.Nat.{ℕ, _*_, _≤_, _<_}
 use mathlib.Core.Path.{_≡_, refl, sym, ap, ap₂, _∙_, subst}
 use mathlib.Core.Logic.{_⊎_, inl, inr, _≢_}
@@ -14,20 +14,20 @@ use Rattle.blocks.specs.State.{State}
 use Rattle.blocks.specs.Loop.{shownWidth}
 use Rattle.blocks.specs.Method.{built, deadlockLoop, deadlockRows}
 use Rattle.blocks.specs.Question.{allYes, firstNo, asksRoom}
-use Rattle.blocks.specs.Answer.{tested, written}
+use Rattle.blocks.specs.Answer.{tested, written, deadlockAnswer, deadlockSpace}
 use Rattle.blocks.specs.Demands.{Shown}
-use Rattle.blocks.specs.Length.{Lengths, AcceptedWith}
-use Rattle.blocks.specs.With.{problemQuestionsWith, deadlockQuestionsWith, DeadlockRefusedWith, deadlockAnswerWith, deadlockSpaceWith}
-use Rattle.blocks.proofs.QuestionLaws.{sentence-append}
-use Rattle.blocks.proofs.WithLaws.{problem-yes, deadlock-refuses, deadlock-refusal, deadlock-accepts, deadlock-none, as-before}
+use Rattle.blocks.specs.Length.{Lengths}
+use Rattle.blocks.specs.Sheet.{Sheet, measuredBy, goalState, Accepted, deadlockQuestions, DeadlockRefused}
+use Rattle.blocks.proofs.GoalStateLaws.{completed-same, bounded}
+use Rattle.blocks.proofs.SheetLaws.{behind-front, behind-late, deadlock-refuses, deadlock-refusal, deadlock-accepts}
 use Rattle.blocks.proofs.DeadlockTestLaws.{rows-length}
 use Rattle.blocks.proofs.Theorems.{theorems}
 use Rattle.problem.specs.declared.Checked as case
-use Rattle.lengths.specs.Checks.{ExaminesWith}
-use Rattle.lengths.proofs.ExamineLaws.{accepted, refused-by, examined}
+use Rattle.lengths.specs.Checks.{Examines}
+use Rattle.lengths.proofs.ExamineLaws.{accepted, refused-by}
 use Rattle.runs.proofs.LentLaws.{unvisited}
 use Rattle.deadlocks.specs.Looks.{Seekable, Sought}
-use Rattle.deadlocks.specs.Answers.{TestsDeadlock, TestsDeadlockWith, Finds}
+use Rattle.deadlocks.specs.Answers.{TestsDeadlock, Finds}
 use Rattle.deadlocks.specs.declared.Tested.{Tested}
 use Rattle.deadlocks.specs.declared.Tested.the-variants.{Refused, Free, Deadlocked}
 
@@ -41,11 +41,11 @@ some-found {r = r} w n = record { count = r; sought = w; free = λ z. absurd (n 
 
 -- ---- refusals
 
-refusal : {ls : Lengths} {s g : State} {space : List ℕ} (k p : ℕ) → DeadlockRefusedWith ls s g space k p → TestsDeadlockWith ls s g space (Refused k p) space
-refusal {ls} {s} {g} {space} k p r =
-    let w = deadlock-refusal ls s g space k p r in
+refusal : {h : Sheet} {space : List ℕ} (k p : ℕ) → DeadlockRefused h space k p → TestsDeadlock h space (Refused k p) space
+refusal {h} {space} k p r =
+    let w = deadlock-refusal h space k p r in
     record {
-      asked = sym (deadlock-refuses ls s g space k p .1 r);
+      asked = sym (deadlock-refuses h space k p .1 r);
       answer = sym (w .0);
       lent = sym (w .1);
       none = λ e. let z : _≡_ {A = ℕ} 0 1 = cc in absurd (omega arith);
@@ -54,55 +54,66 @@ refusal {ls} {s} {g} {space} k p r =
 
 -- ---- the ways out
 
--- a checked problem with room
-pub seekable : {ls : Lengths} {s g : State} {space : List ℕ} {c : case.Checked} {y y′ : Yard} → ExaminesWith ls s g c y y′ → c ≡ case.the-variants.Accepted
-    → Sized y → Fresh rowCount y → shownWidth * length s ≤ length space → Seekable s g y′ space
-seekable w d z f h =
-    record { problem = accepted (w .checks) d .accepted; sized = sized-within z (w .within); start = w .known d; visits = unvisited f (examined w d); room = h }
+-- a checked sheet with room
+pub seekable : {ls : Lengths} {s g : State} {space : List ℕ} {c : case.Checked} {y y′ : Yard} → Examines (measuredBy ls s g) c y y′
+    → c ≡ case.the-variants.Accepted → Sized y → Fresh rowCount y → shownWidth * length s ≤ length space → Seekable s g y′ space
+seekable w d z f r =
+    let a = accepted (w .checks) d in
+    record {
+      problem = record { small = a .small; problem = a .problem };
+      sized = sized-within z (w .within);
+      start = w .known d;
+      visits = unvisited f (w .within);
+      room = r;
+    }
 
-module _ {ls : Lengths} {s g : State} (space : List ℕ) {c : case.Checked} {y y′ : Yard} (w : ExaminesWith ls s g c y y′) where
-  pub refused-way : {k p : ℕ} → c ≡ case.the-variants.Refused k p → TestsDeadlockWith ls s g space (Refused k p) space
-  unfolding deadlockQuestionsWith
-  refused-way {k} {p} e = refusal k p (sentence-append (problemQuestionsWith ls s g) _ k p .1 (inl (refused-by (w .checks) e)))
+module _ {h : Sheet} (space : List ℕ) {c : case.Checked} {y y′ : Yard} (w : Examines h c y y′) where
+  pub refused-way : {k p : ℕ} → c ≡ case.the-variants.Refused k p → TestsDeadlock h space (Refused k p) space
+  unfolding deadlockQuestions
+  refused-way {k} {p} e = refusal k p (behind-front none h _ k p (refused-by (w .checks) e))
 
   module _ (e : c ≡ case.the-variants.Accepted) where
-    accept : AcceptedWith ls s g
+    accept : Accepted h
     accept = accepted (w .checks) e
 
-    pub room-way : length space < shownWidth * length s → TestsDeadlockWith ls s g space (Refused 10 0) space
-    unfolding deadlockQuestionsWith asksRoom
-    room-way h =
-        let first = sentence-append (problemQuestionsWith ls s g) _ 10 0 .1 in
-        refusal 10 0 (first (inr (problem-yes ls s g .1 accept, inl (refl, (refl, λ l. omega arith)))))
+    abbrev s : State
+    s = h .initial
 
-    module _ (h : shownWidth * length s ≤ length space) {a : Tested} {space′ : List ℕ} (f : Finds s g space a space′) where
+    abbrev g : State
+    g = goalState h
+
+    pub room-way : length space < shownWidth * length s → TestsDeadlock h space (Refused 10 0) space
+    unfolding deadlockQuestions asksRoom
+    room-way r = refusal 10 0 (behind-late none h _ 10 0 tt accept (inl (refl, (refl, λ l. omega arith))))
+
+    module _ (r : shownWidth * length s ≤ length space) {a : Tested} {space′ : List ℕ} (f : Finds s g space a space′) where
       u : Sought s g space (f .count) space′
       u = f .sought
 
-      yes : firstNo (deadlockQuestionsWith ls s g space) ≡ allYes
-      yes = deadlock-accepts ls s g space .1 (accept, h)
+      yes : firstNo (deadlockQuestions h space) ≡ allYes
+      yes = deadlock-accepts h space .1 (record { accepted = accept; room = r })
 
-      given : record { number = 0; place = 0; count = f .count } ≡ deadlockAnswerWith ls s g space
-      unfolding deadlockAnswerWith
+      given : record { number = 0; place = 0; count = f .count } ≡ deadlockAnswer h space
+      unfolding deadlockAnswer
       given = ap (λ k. record { number = 0; place = 0; count = k }) (u .count) ∙ sym (ap (λ a. tested a (deadlockLoop s g)) yes)
 
-      lent : space′ ≡ deadlockSpaceWith ls s g space
-      unfolding deadlockSpaceWith
+      lent : space′ ≡ deadlockSpace h space
+      unfolding deadlockSpace
       lent = u .written ∙ sym (ap (λ a. written a (deadlockRows s g) space) yes)
 
       -- nothing is deadlocked
-      free-way : f .count ≡ 0 → TestsDeadlockWith ls s g space Free space′
+      free-way : f .count ≡ 0 → TestsDeadlock h space Free space′
       free-way z =
           record {
             asked = sym yes;
             answer = ap (λ k. record { number = 0; place = 0; count = k }) (sym z) ∙ given;
             lent = lent;
-            none = λ _. theorems .deadlock-none s g (accept .accepted .problem) .0 (sym (u .count) ∙ z);
+            none = λ _. theorems .deadlock-none s g (bounded accept .problem) .0 (sym (u .count) ∙ z);
             some = λ k e. let y : _≡_ {A = ℕ} 0 1 = cc in absurd (omega arith);
           }
 
       -- the blocks shown are
-      shown-way : f .count ≢ 0 → TestsDeadlockWith ls s g space (Deadlocked (f .count)) space′
+      shown-way : f .count ≢ 0 → TestsDeadlock h space (Deadlocked (f .count)) space′
       unfolding deadlockRows
       shown-way n =
           record {
@@ -120,26 +131,18 @@ module _ {ls : Lengths} {s g : State} (space : List ℕ) {c : case.Checked} {y y
           long = omega (arith, u .count, rows-length (built s g) g (deadlockLoop s g))
 
           shown : Shown s g (deadlockLoop s g) (deadlockRows s g)
-          shown = theorems .deadlock-shown s g (accept .accepted .problem) (λ z. n (u .count ∙ z))
+          shown = theorems .deadlock-shown s g (bounded accept .problem) (λ z. n (u .count ∙ z))
 
           front : take (shownWidth * f .count) space′ ≡ deadlockRows s g
           front = ap₂ (λ i l. take i l) long (u .written) ∙ overwrite-front (deadlockRows s g) space
 
-      pub test-way : TestsDeadlockWith ls s g space a space′
-      test-way = by (same? (f .count) 0)
+      told : TestsDeadlock h space a space′
+      told = by (same? (f .count) 0)
         where
-          by : (f .count ≡ 0) ⊎ (f .count ≢ 0) → TestsDeadlockWith ls s g space a space′
+          by : (f .count ≡ 0) ⊎ (f .count ≢ 0) → TestsDeadlock h space a space′
           by (inl z) = rw (f .free z) (free-way z)
           by (inr n) = rw (f .found n) (shown-way n)
 
--- ---- without lengths
-
-pub plain-way : {s g : State} {space : List ℕ} {r : Tested} {space′ : List ℕ} → TestsDeadlockWith none s g space r space′ → TestsDeadlock s g space r space′
-plain-way {s} {g} {space} w =
-    record {
-      asked = w .asked ∙ ap firstNo (deadlock-none s g space);
-      answer = w .answer ∙ as-before .deadlock s g space;
-      lent = w .lent ∙ as-before .deadlock-space s g space;
-      none = w .none;
-      some = w .some;
-    }
+    -- the goal list, which is lent on, is the goal state
+    pub test-way : shownWidth * length s ≤ length space → {a : Tested} {space′ : List ℕ} → Finds s (h .goal) space a space′ → TestsDeadlock h space a space′
+    test-way r {a} {space′} f = told r (subst (λ t. Finds s t space a space′) (sym (completed-same s (h .goal))) f)

@@ -6,11 +6,10 @@ use mathlib.Core.List.{List}
 use lib.ListN.{length, take}
 use Rattle.blocks.specs.State.{State}
 use Rattle.blocks.specs.Loop.{shownWidth}
-use Rattle.blocks.specs.Question.{Asked, allYes, no′, firstNo, deadlockQuestions}
+use Rattle.blocks.specs.Question.{Asked, allYes, no′, firstNo}
+use Rattle.blocks.specs.Sheet.{Sheet, goalState, deadlockQuestions}
 use Rattle.blocks.specs.Answer.{DeadlockAnswer, deadlockAnswer, deadlockSpace}
 use Rattle.blocks.specs.Demands.{NoDeadlock, Shown}
-use Rattle.blocks.specs.Length.{Lengths}
-use Rattle.blocks.specs.With.{deadlockQuestionsWith, deadlockAnswerWith, deadlockSpaceWith}
 use Rattle.deadlocks.specs.Looks.{Sought}
 use Rattle.deadlocks.specs.declared.Tested.{Tested}
 use Rattle.deadlocks.specs.declared.Tested.the-variants.{Refused, Free, Deadlocked}
@@ -29,20 +28,13 @@ askedOf (Deadlocked c) = allYes
 
 -- The deadlock test: the case, document 01's numbers, the lent space whole; and that it agrees with the definition of deadlocked at the start, no and yes alike:
 -- `Free` says that no blocks are deadlocked, and the rows of a `Deadlocked` answer, read back from the space, show blocks that are.
-pub record TestsDeadlock (s g : State) (space : List ℕ) (r : Tested) (space′ : List ℕ) : Type 0 where
-  pub asked : askedOf r ≡ firstNo (deadlockQuestions s g space)
-  pub answer : answerOf r ≡ deadlockAnswer s g space
-  pub lent : space′ ≡ deadlockSpace s g space
-  pub none : r ≡ Free → NoDeadlock s g
-  pub some : (c : ℕ) → r ≡ Deadlocked c → (blocks : List ℕ) × (length blocks ≡ c) × Shown s g blocks (take (shownWidth * c) space′)
-
--- The same with lengths.
-pub record TestsDeadlockWith (ls : Lengths) (s g : State) (space : List ℕ) (r : Tested) (space′ : List ℕ) : Type 0 where
-  pub asked : askedOf r ≡ firstNo (deadlockQuestionsWith ls s g space)
-  pub answer : answerOf r ≡ deadlockAnswerWith ls s g space
-  pub lent : space′ ≡ deadlockSpaceWith ls s g space
-  pub none : r ≡ Free → NoDeadlock s g
-  pub some : (c : ℕ) → r ≡ Deadlocked c → (blocks : List ℕ) × (length blocks ≡ c) × Shown s g blocks (take (shownWidth * c) space′)
+pub record TestsDeadlock (h : Sheet) (space : List ℕ) (r : Tested) (space′ : List ℕ) : Type 0 where
+  pub asked : askedOf r ≡ firstNo (deadlockQuestions h space)
+  pub answer : answerOf r ≡ deadlockAnswer h space
+  pub lent : space′ ≡ deadlockSpace h space
+  pub none : r ≡ Free → NoDeadlock (h .initial) (goalState h)
+  pub some : (c : ℕ) → r ≡ Deadlocked c
+      → (blocks : List ℕ) × (length blocks ≡ c) × Shown (h .initial) (goalState h) blocks (take (shownWidth * c) space′)
 
 -- What is found in a problem that has been checked.
 pub record Finds (s g : State) (space : List ℕ) (r : Tested) (space′ : List ℕ) : Type 0 where

@@ -8,7 +8,7 @@ use lib.ListN.{length, set}
 use Rattle.lists.specs.Lists.{overwrite}
 use Rattle.rows.specs.Rows.{Yard, Sized}
 use Rattle.blocks.specs.State.{State}
-use Rattle.blocks.specs.Position.{Accepted}
+use Rattle.blocks.specs.Position.{Bounded}
 use Rattle.blocks.specs.Stall.{NoneReady, IsLoop}
 use Rattle.blocks.specs.Tests.{misplacedCount}
 use Rattle.blocks.specs.Loop.{loop, lowestOf, onward, blockedRows, shownWidth}
@@ -62,7 +62,7 @@ pub record Looked (s g : State) (out : List ℕ) (r : ℕ) (out′ : List ℕ) :
 
 -- A problem that has been checked, with the yard as the check left it, and space for a row of each block.
 pub record Seekable (s g : State) (y : Yard) (out : List ℕ) : Type 0 where
-  pub problem : Accepted s g
+  pub problem : Bounded s g
   pub sized : Sized y
   pub start : AtStart s g y
   pub visits : Unvisited y

@@ -4,10 +4,11 @@ ghost use Prim.Native.Nat.{_+_, _*_, _<_};
 ghost use lib.ListN.{length};
 ghost use Rattle.blocks.specs.State.{State};
 ghost use Rattle.blocks.specs.Loop.{loop, onward, blockedRows, shownWidth};
-ghost use Rattle.blocks.specs.Length.{given};
+ghost use Rattle.lengths.specs.Checks.{sheetOf};
 ghost use Rattle.lists.specs.Lists.{overwrite};
 ghost use Rattle.deadlocks.specs.Looks.{rowAt, Shows, Showable, Looks, Lookable, Looked, Seekable, Sought};
-ghost use Rattle.deadlocks.specs.Answers.{TestsDeadlock, TestsDeadlockWith, Finds};
+ghost use Rattle.deadlocks.specs.Answers.{TestsDeadlock, Finds};
+use lengths::Given;
 use numberset::WORDS;
 use problem::Checked;
 use rows::MOST;
@@ -29,25 +30,19 @@ pub enum Tested {
     Deadlocked { count: usize },
 }
 
-// Questions 2 to 10, and then whether blocks are deadlocked at the start; where some are, they are written as rows from the front of the lent space.
-pub fn deadlock(initial: &[u16], goal: &[u16], out: &mut [u16]) -> Tested
-    ensures { λ r. ⌜ TestsDeadlock (now (initial .entry)) (now (goal .entry)) (now (out .entry)) r (now (out .exit)) ⌝ }
-{
-    deadlock_with(initial, goal, false, &initial[..0], out)
-}
-
-// The same with questions 16 to 18 after 9; where the problem is not measured, the lengths are not looked at.
-pub fn deadlock_with(
+// The questions of a sheet and 10, and then whether blocks are deadlocked at the start; where some are, they are written as rows from the front of the lent
+// space.
+pub fn deadlock(
+    given: Given,
     initial: &[u16],
     goal: &[u16],
-    measured: bool,
     lengths: &[u16],
     out: &mut [u16],
 ) -> Tested
-    ensures { λ r. ⌜ TestsDeadlockWith (given measured (now (lengths .entry))) (now (initial .entry)) (now (goal .entry)) (now (out .entry)) r (now (out .exit)) ⌝ }
+    ensures { λ r. ⌜ TestsDeadlock (sheetOf given (now (initial .entry)) (now (goal .entry)) (now (lengths .entry))) (now (out .entry)) r (now (out .exit)) ⌝ }
 {
     let mut yard = [[0u16; ROW]; ROWS];
-    let checked = lengths::examine(initial, goal, measured, lengths, &mut yard);
+    let checked = lengths::examine(given, initial, goal, lengths, &mut yard);
     if let Checked::Refused { number, place } = checked {
         return Tested::Refused { number, place };
     }

@@ -16,7 +16,7 @@ use Rattle.lists.proofs.ReflectLaws.{reflects-same, reflects-not, leb-reflects,
 use Rattle.lists.proofs.ScanLaws.{Scanned, scan-begin, scan-next, scan-found, scan-none}
 use Rattle.lists.proofs.SearchLaws.{lowest-le}
 use Rattle.blocks.specs.State.{State, support}
-use Rattle.blocks.specs.Position as position
+use Rattle.blocks.specs.Position.{Bounded}
 use Rattle.blocks.specs.Question.{firstNo}
 use Rattle.blocks.specs.Length.{fitsᵇ, overhangsᵇ, firstOverhang, asksLengths, asksOverhang, overhangQuestions, lengthQuestions}
 use Rattle.blocks.proofs.StateLaws.{support-at}
@@ -71,7 +71,7 @@ resting-all w h = scan-none (w .scanned) (omega (arith, w .all))
 
 -- ---- the ways out of `measure`
 
-module _ {s g : State} {l : List ℕ} (w : position.Accepted s g) (e : length l ≡ length s) where
+module _ {s g : State} {l : List ℕ} (w : Bounded s g) (e : length l ≡ length s) where
   pub initial-measurable : Measurable s l
   initial-measurable = record { small = w .small; entries = w .problem .initial .entries; count = e }
 

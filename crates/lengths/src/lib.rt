@@ -1,43 +1,48 @@
-// Slab lengths (document 02, Job 3): questions 16 to 18 of a problem, and whether a block may rest on another.
+// The check of a sheet: questions 2 to 9, and of the slab lengths 16 to 18 (document 02, Job 3); and whether a block may rest on another.
 ghost use mathlib.Core.Path.{_≡_};
 ghost use mathlib.Core.Bool.{not};
 ghost use mathlib.Core.Option.{some};
 ghost use Prim.Native.Nat.{_≤_};
 ghost use lib.ListN.{length};
 ghost use Rattle.rows.specs.Rows.{Fresh};
-ghost use Rattle.blocks.specs.Position.{Accepted};
+ghost use Rattle.blocks.specs.Position.{Bounded};
 ghost use Rattle.blocks.specs.Question.{firstNo};
-ghost use Rattle.blocks.specs.Length.{given, fitsᵇ, firstOverhang, lengthQuestions};
+ghost use Rattle.blocks.specs.Length.{fitsᵇ, firstOverhang, lengthQuestions};
 ghost use Rattle.problem.specs.Checked.{askedOf};
-ghost use Rattle.lengths.specs.Checks.{ChecksWith, ExaminesWith, Measurable};
+ghost use Rattle.lengths.specs.Checks.{sheetOf, Checks, Examines, Measurable};
 use problem::Checked;
 use rows::CHECKED;
 use rows::ROW;
 
-// Questions 2 to 9 and 16 to 18, put to any three lists; where the problem is not measured, the lengths are not looked at.
-pub fn check(initial: &[u16], goal: &[u16], measured: bool, lengths: &[u16]) -> Checked
-    ensures { λ r. ⌜ ChecksWith (given measured (now (lengths .entry))) (now (initial .entry)) (now (goal .entry)) r ⌝ }
+// Which lists of a sheet are given beside its states. One that is not is not looked at.
+pub struct Given {
+    pub lengths: bool,
+}
+
+// Questions 2 to 9 and, where lengths are given, 16 to 18, put to any lists.
+pub fn check(given: Given, initial: &[u16], goal: &[u16], lengths: &[u16]) -> Checked
+    ensures { λ r. ⌜ Checks (sheetOf given (now (initial .entry)) (now (goal .entry)) (now (lengths .entry))) r ⌝ }
 {
     let mut rows = [[0u16; ROW]; CHECKED];
-    examine(initial, goal, measured, lengths, &mut rows)
+    examine(given, initial, goal, lengths, &mut rows)
 }
 
 // The same over lent rows that are zero, which are then as `problem::examine` leaves them.
 pub fn examine(
+    given: Given,
     initial: &[u16],
     goal: &[u16],
-    measured: bool,
     lengths: &[u16],
     rows: &mut [[u16; ROW]],
 ) -> Checked
     requires { ⌜ Fresh 4 (now rows) ⌝ }
-    ensures { λ r. ⌜ ExaminesWith (given measured (now (lengths .entry))) (now (initial .entry)) (now (goal .entry)) r (now (rows .entry)) (now (rows .exit)) ⌝ }
+    ensures { λ r. ⌜ Examines (sheetOf given (now (initial .entry)) (now (goal .entry)) (now (lengths .entry))) r (now (rows .entry)) (now (rows .exit)) ⌝ }
 {
     let checked = problem::examine(initial, goal, rows);
     if let Checked::Refused { number, place } = checked {
         return Checked::Refused { number, place };
     }
-    if measured {
+    if given.lengths {
         return measure(initial, goal, lengths);
     }
     Checked::Accepted
@@ -45,7 +50,7 @@ pub fn examine(
 
 // Questions 16 to 18, of a problem that is accepted without lengths.
 fn measure(initial: &[u16], goal: &[u16], lengths: &[u16]) -> Checked
-    requires { ⌜ Accepted (now initial) (now goal) ⌝ }
+    requires { ⌜ Bounded (now initial) (now goal) ⌝ }
     ensures { λ r. ⌜ askedOf r ≡ firstNo (lengthQuestions (some (now (lengths .entry))) (now (initial .entry)) (now (goal .entry))) ⌝ }
 {
     if lengths.len() != initial.len() {

@@ -11,9 +11,14 @@ ghost use Prim.Native.Nat.{_≤_, _<_};
 ghost use lib.ListN.{length};
 use deadlocks::Tested;
 use deadlocks::WIDTH;
+use lengths::Given;
+use planner::Call;
 use planner::Planned;
 use problem::Checked;
 use validator::Replayed;
+
+// Sheets without lengths.
+const PLAIN: Given = Given { lengths: false };
 
 // What a refused replay has in place of a verdict.
 const NO_VERDICT: u16 = 65535;
@@ -92,11 +97,17 @@ fn answer(operation: usize, nums: &[u16], space: &mut [u16], a: usize, b: usize,
     requires { ⌜ (a ≤ b) × (b ≤ c) × (c ≤ length (now nums)) ⌝ }
 {
     if operation == 1 {
-        tell_checked(problem::check(&nums[0..a], &nums[a..b]));
+        tell_checked(lengths::check(PLAIN, &nums[0..a], &nums[a..b], &nums[0..0]));
         return true;
     }
     if operation == 2 {
-        tell_replayed(validator::validate(&nums[0..a], &nums[a..b], &nums[b..c]));
+        tell_replayed(validator::validate(
+            PLAIN,
+            &nums[0..a],
+            &nums[a..b],
+            &nums[0..0],
+            &nums[b..c],
+        ));
         return true;
     }
     if c - b != 2 {
@@ -125,12 +136,16 @@ fn answer_in(
 ) -> bool {
     paint(space);
     if operation == 3 {
-        let planned = planner::plan(method, initial, goal, space);
+        let office = Call {
+            method,
+            panel: false,
+        };
+        let planned = planner::plan(office, PLAIN, initial, goal, &initial[0..0], space);
         tell_planned(planned, space);
         return true;
     }
     if operation == 4 {
-        let tested = deadlocks::deadlock(initial, goal, space);
+        let tested = deadlocks::deadlock(PLAIN, initial, goal, &initial[0..0], space);
         tell_tested(tested, space);
         return true;
     }

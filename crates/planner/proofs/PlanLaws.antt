@@ -1,8 +1,8 @@
--- Planning whole: what each way out of `plan_up_to` answers, and what a checked problem with room lends to `solve`. Assumes nothing.
+-- Planning whole: what each way out of `plan` answers, and what a checked sheet with room lends to `solve`. Assumes nothing.
 use Prim.Native.Nat.{ℕ, zero, suc, _*_, _≤_, _<_}
 use mathlib.Core.Path.{_≡_, refl, sym, ap, ap₂, _∙_, subst}
-use mathlib.Core.Logic.{inl, inr, _≢_}
-use mathlib.Core.Bool.{Bool, true, false, _&&_}
+use mathlib.Core.Logic.{_≢_}
+use mathlib.Core.Bool.{Bool, true, false, _&&_, cond}
 use mathlib.Core.List.{List}
 use mathlib.Core.Option.{none, some}
 use native.Mathlib.Omega.{arith}
@@ -17,24 +17,23 @@ use Rattle.blocks.specs.Position.{Problem}
 use Rattle.blocks.specs.Tests.{misplacedCount}
 use Rattle.blocks.specs.Method.{Method, plan, methodOf, outcomeBy, planOf, planOutcome}
 use Rattle.blocks.specs.Steps as words
-use Rattle.blocks.specs.Question.{allYes, firstNo, IsMethod, isMethod, asksMethod, asksRoom}
-use Rattle.blocks.specs.Answer.{flat, moves, planned, written}
-use Rattle.blocks.specs.Length.{Lengths, AcceptedWith}
-use Rattle.blocks.specs.With.{problemQuestionsWith, planQuestionsWith, PlanRefusedWith, planAnswerWith, planSpaceWith}
-use Rattle.blocks.specs.WithDemands.{HeadCountWith, PromiseWith}
-use Rattle.blocks.specs.Panel.{PlanRefusedUpTo}
+use Rattle.blocks.specs.Question.{allYes, firstNo, IsMethod, isMethod, asksMethod}
+use Rattle.blocks.specs.Length.{Lengths}
+use Rattle.blocks.specs.Sheet.{Sheet, measuredBy, goalState, Arrives, Accepted, Call, panelMost, Takes, planQuestions, PlanRefused}
+use Rattle.blocks.specs.Answer.{flat, moves, planned, written, planAnswer, planSpace}
+use Rattle.blocks.specs.Demands.{HeadCount, Promise}
 use Rattle.blocks.proofs.FlatLaws.{pairs-back, length-flat}
-use Rattle.blocks.proofs.QuestionLaws.{sentence-append}
 use Rattle.blocks.proofs.DecidedLaws.{method-decided}
-use Rattle.blocks.proofs.WithLaws.{problem-yes, plan-refuses, plan-refusal, plan-accepts, plan-none, as-before}
+use Rattle.blocks.proofs.GoalStateLaws.{completed-same, bounded}
+use Rattle.blocks.proofs.SheetLaws.{plan-refuses, plan-refusal, plan-accepts, method-no, sheet-no, limit-no, room-no, limit-kept}
 use Rattle.blocks.proofs.Theorems.{theorems}
-use Rattle.blocks.proofs.WithTheorems.{with-theorems, promise-plain, head-count-plain}
-use Rattle.blocks.proofs.PanelLaws.{up-to-refuses, up-to-refusal, asked-alike, answers-alike, no-method-first, limit-passed}
+use Rattle.blocks.proofs.SheetTheorems.{sheet-theorems}
 use Rattle.problem.specs.declared.Checked as case
-use Rattle.lengths.specs.Checks.{ExaminesWith}
-use Rattle.lengths.proofs.ExamineLaws.{accepted, refused-by, examined}
+use Rattle.lengths.specs.Checks.{Examines}
+use Rattle.lengths.proofs.ExamineLaws.{accepted, refused-by}
 use Rattle.runs.proofs.LentLaws.{unvisited}
-use Rattle.planner.specs.Answers.{answerOf, askedOf, asMethod, namedAs, Plans, PlansWith, PlansUpTo, Solvable, Ran, Solved}
+use Rattle.planner.specs.Answers.{answerOf, askedOf, asMethod, namedAs, callOf, beyondᵇ, Plans, Solvable, Ran, Solved}
+use Rattle.planner.specs.declared.Call as calls
 use Rattle.planner.specs.declared.Method as declared
 use Rattle.planner.specs.declared.Named.{Named}
 use Rattle.planner.specs.declared.Named.the-variants.{By, Unknown}
@@ -47,59 +46,17 @@ use Rattle.planner.specs.declared.Planned.the-variants.{Refused, Made}
 none-made : {A : Type 0} {k p c d : ℕ} → Refused k p ≡ Made c d → A
 none-made e = let z : _≡_ {A = ℕ} 0 1 = cc in absurd (omega arith)
 
-refusal : {ls : Lengths} {m : ℕ} {s g : State} {space : List ℕ} (k p : ℕ) → PlanRefusedWith ls m s g space k p → PlansWith ls m s g space (Refused k p) space
-refusal {ls} {m} {s} {g} {space} k p r =
-    let w = plan-refusal ls m s g space k p r in
+refusal : {call : Call} {h : Sheet} {space : List ℕ} (k p : ℕ) → PlanRefused call h space k p → Plans call h space (Refused k p) space
+refusal {call} {h} {space} k p r =
+    let w = plan-refusal call h space k p r in
     record {
-      asked = sym (plan-refuses ls m s g space k p .1 r);
+      asked = sym (plan-refuses call h space k p .1 r);
       answer = sym (w .0);
       lent = sym (w .1);
       told = λ c d e. none-made e;
       promise = λ c d e. none-made e;
       head-count = λ c d e. none-made e;
     }
-
--- ---- with a limit
-
-module _ {limit : ℕ} {ls : Lengths} {m : ℕ} {s g : State} {space : List ℕ} where
-  refusal-up-to : (k p : ℕ) → PlanRefusedUpTo limit ls m s g space k p → (length s ≤ limit → PlansWith ls m s g space (Refused k p) space)
-      → PlansUpTo limit ls m s g space (Refused k p) space
-  refusal-up-to k p r alike =
-      let w = up-to-refusal limit ls m s g space k p r in
-      record { asked = sym (up-to-refuses limit ls m s g space k p .1 r); answer = sym (w .0); lent = sym (w .1); alike = alike; small = λ c d e. none-made e }
-
-  -- question 19 is not answered no
-  module _ (h : length s ≤ most → length s ≤ limit) {r : Planned} {space′ : List ℕ} where
-    within : PlansWith ls m s g space r space′ → PlansUpTo limit ls m s g space r space′
-    within w =
-        let same = answers-alike limit ls m s g space h in
-        record {
-          asked = w .asked ∙ sym (asked-alike limit ls m s g space h);
-          answer = w .answer ∙ sym (same .0);
-          lent = w .lent ∙ sym (same .1);
-          alike = λ _. w;
-          small = λ c d e. h (plan-accepts ls m s g space .0 (sym (w .asked) ∙ ap askedOf e) .1 .accepted .small);
-        }
-
-    without : PlansUpTo limit ls m s g space r space′ → PlansWith ls m s g space r space′
-    without w =
-        let same = answers-alike limit ls m s g space h in
-        record {
-          asked = w .asked ∙ asked-alike limit ls m s g space h;
-          answer = w .answer ∙ same .0;
-          lent = w .lent ∙ same .1;
-          told = λ c d e. w .alike (w .small c d e) .told c d e;
-          promise = λ c d e. w .alike (w .small c d e) .promise c d e;
-          head-count = λ c d e. w .alike (w .small c d e) .head-count c d e;
-        }
-
--- the office's limit is that of question 2
-pub office-way : {ls : Lengths} {m : ℕ} {s g : State} {space : List ℕ} {r : Planned} {space′ : List ℕ} → PlansUpTo most ls m s g space r space′
-    → PlansWith ls m s g space r space′
-office-way w = without (λ h. h) w
-
-beyond-test : (limit n : ℕ) → Reflects ((n ≤ most) × (limit < n)) (leb n most && ltb limit n)
-beyond-test limit n = reflects-and (leb-reflects n most) (ltb-reflects limit n)
 
 -- ---- the method
 
@@ -119,12 +76,22 @@ is-method : (m : ℕ) → Reflects (IsMethod m) (isMethod (methodOf m))
 unfolding asksMethod
 is-method m = method-decided m .decides
 
-pub unknown-way : (limit : ℕ) (ls : Lengths) {m : ℕ} (s g : State) (space : List ℕ) {r : Named} → namedAs r ≡ methodOf m → r ≡ Unknown
-    → PlansUpTo limit ls m s g space (Refused 1 0) space
-unfolding planQuestionsWith asksMethod
-unknown-way limit ls {m} s g space {r} e u =
-    let unknown : ¬ IsMethod m = from-false (is-method m) (ap isMethod (sym e ∙ ap namedAs u)) in
-    refusal-up-to 1 0 (no-method-first limit ls m s g space unknown) (λ _. refusal 1 0 (inl (refl, (refl, unknown))))
+pub unknown-way : (call : Call) (h : Sheet) (space : List ℕ) {r : Named} → namedAs r ≡ methodOf (call .method) → r ≡ Unknown → Plans call h space (Refused 1 0) space
+unknown-way call h space e u = refusal 1 0 (method-no call h space (from-false (is-method (call .method)) (ap isMethod (sym e ∙ ap namedAs u))))
+
+-- ---- the entry
+
+beyond-test : (n : ℕ) → Reflects ((n ≤ most) × (panelMost < n)) (leb n most && ltb panelMost n)
+beyond-test n = reflects-and (leb-reflects n most) (ltb-reflects panelMost n)
+
+-- question 19 is answered no, or 2 is, or neither
+beyond-no : (panel : Bool) (n : ℕ) → beyondᵇ panel n ≡ true → (n ≤ most) × (¬ Takes (cond panel (some panelMost) none) n)
+beyond-no false n e = let z : _≡_ {A = ℕ} 0 1 = ap (λ t. cond t 1 0) e in absurd (omega arith)
+beyond-no true n e = let w = from-true (beyond-test n) e in (w .0, λ l. omega (arith, w .1, l))
+
+beyond-yes : (panel : Bool) (n : ℕ) → beyondᵇ panel n ≡ false → n ≤ most → Takes (cond panel (some panelMost) none) n
+beyond-yes false n e l = tt
+beyond-yes true n e l = not-not (leb-reflects n panelMost) (λ h. from-false (beyond-test n) e (l, omega (arith, h)))
 
 -- ---- what is written is told by the method's words, and keeps the promise
 
@@ -139,91 +106,87 @@ module _ {by : Method} {s g : State} {space : List ℕ} {r : ℕ} {space′ : Li
   told : Problem s g → words.By by s g (moves (take (2 * k) space′))
   told q = subst (words.By by s g) (sym front) (theorems .methods by s g q (v .moves) .0 (v .outcome))
 
-  promised : {ls : Lengths} → AcceptedWith ls s g → PromiseWith ls by s g (moves (take (2 * k) space′))
-  promised {ls} a =
-      let w = with-theorems .demand ls by s g a in
-      let same : w .0 ≡ v .moves = cc (w .1, v .outcome) in
-      subst (PromiseWith ls by s g) (same ∙ sym front) (w .2)
-
--- a checked problem with room
-pub solvable : {ls : Lengths} {s g : State} {space : List ℕ} {c : case.Checked} {y y′ : Yard} → ExaminesWith ls s g c y y′ → c ≡ case.the-variants.Accepted
-    → Sized y → Fresh rowCount y → 4 * length s ≤ length space → Solvable s g y′ space
-solvable w d z f h =
-    record { problem = accepted (w .checks) d .accepted; sized = sized-within z (w .within); start = w .known d; visits = unvisited f (examined w d); room = h }
+-- a checked sheet with room
+pub solvable : {ls : Lengths} {s g : State} {space : List ℕ} {c : case.Checked} {y y′ : Yard} → Examines (measuredBy ls s g) c y y′
+    → c ≡ case.the-variants.Accepted → Sized y → Fresh rowCount y → 4 * length s ≤ length space → Solvable s g y′ space
+solvable w d z f r =
+    let a = accepted (w .checks) d in
+    record {
+      problem = record { small = a .small; problem = a .problem };
+      sized = sized-within z (w .within);
+      start = w .known d;
+      visits = unvisited f (w .within);
+      room = r;
+    }
 
 -- ---- the ways out of a named method
 
-module _ (limit : ℕ) (ls : Lengths) (m : ℕ) (s g : State) (space : List ℕ) (r : Named) (by : declared.Method) (e : namedAs r ≡ methodOf m) (n : r ≡ By by)
-    {t : Bool} (b : t ≡ (leb (length s) most && ltb limit (length s))) where
-  method : methodOf m ≡ some (asMethod by)
+module _ (o : calls.Call) (h : Sheet) (space : List ℕ) (r : Named) (by : declared.Method) (e : namedAs r ≡ methodOf (o .method)) (n : r ≡ By by) {t : Bool}
+    (b : t ≡ beyondᵇ (o .panel) (length (h .initial))) where
+  abbrev call : Call
+  call = callOf o
+
+  method : methodOf (o .method) ≡ some (asMethod by)
   method = sym e ∙ ap namedAs n
 
-  known : IsMethod m
-  known = from-true (is-method m) (ap isMethod method)
+  known : IsMethod (o .method)
+  known = from-true (is-method (o .method)) (ap isMethod method)
 
-  pub limit-way : t ≡ true → PlansUpTo limit ls m s g space (Refused 19 0) space
-  limit-way f =
-      let w = from-true (beyond-test limit (length s)) (sym b ∙ f) in
-      refusal-up-to 19 0 (limit-passed limit ls m s g space known (w .1) (w .0)) (λ small. absurd (omega (arith, w .1, small)))
+  pub limit-way : t ≡ true → Plans (callOf o) h space (Refused 19 0) space
+  limit-way f = let w = beyond-no (o .panel) (length (h .initial)) (sym b ∙ f) in refusal 19 0 (limit-no call h space known (w .0) (w .1))
 
-  module _ (f : t ≡ false) {c : case.Checked} {y y′ : Yard} (w : ExaminesWith ls s g c y y′) where
-    kept : length s ≤ most → length s ≤ limit
-    kept l = not-not (leb-reflects (length s) limit) (λ h. from-false (beyond-test limit (length s)) (sym b ∙ f) (l, omega (arith, h)))
+  module _ (f : t ≡ false) {c : case.Checked} {y y′ : Yard} (w : Examines h c y y′) where
+    kept : length (h .initial) ≤ most → Takes (call .limit) (length (h .initial))
+    kept = beyond-yes (o .panel) (length (h .initial)) (sym b ∙ f)
 
-    pub refused-way : {k p : ℕ} → c ≡ case.the-variants.Refused k p → PlansUpTo limit ls m s g space (Refused k p) space
-    unfolding planQuestionsWith asksMethod
-    refused-way {k} {p} d = within kept (refusal k p (inr (known, sentence-append (problemQuestionsWith ls s g) _ k p .1 (inl (refused-by (w .checks) d)))))
+    pub refused-way : {k p : ℕ} → c ≡ case.the-variants.Refused k p → Plans (callOf o) h space (Refused k p) space
+    refused-way {k} {p} d = refusal k p (sheet-no call h space known k p (limit-kept (call .limit) h kept k p (refused-by (w .checks) d)))
 
     module _ (d : c ≡ case.the-variants.Accepted) where
-      accept : AcceptedWith ls s g
+      accept : Accepted h
       accept = accepted (w .checks) d
 
-      pub room-way : length space < 4 * length s → PlansUpTo limit ls m s g space (Refused 10 0) space
-      unfolding planQuestionsWith asksMethod asksRoom
-      room-way h =
-          let first = sentence-append (problemQuestionsWith ls s g) _ 10 0 .1 in
-          within kept (refusal 10 0 (inr (known, first (inr (problem-yes ls s g .1 accept, inl (refl, (refl, λ l. omega arith)))))))
+      pub room-way : length space < 4 * length (h .initial) → Plans (callOf o) h space (Refused 10 0) space
+      room-way l = refusal 10 0 (room-no call h space known (kept (accept .small)) accept l)
 
-      module _ (h : 4 * length s ≤ length space) where
-        -- ---- the plan
+      -- ---- the plan
 
-        pub made-way : {a : Planned} {space′ : List ℕ} → Solved (asMethod by) s g space a space′ → PlansUpTo limit ls m s g space a space′
-        unfolding planAnswerWith planSpaceWith planOutcome
-        made-way {a} {space′} u = within kept (rw (u .made) (record {
+      module _ (l : 4 * length (h .initial) ≤ length space) {z : Planned} {space′ : List ℕ} (u : Solved (asMethod by) (h .initial) (goalState h) space z space′) where
+        v : Ran (asMethod by) (h .initial) (goalState h) space (u .count) space′
+        v = u .ran
+
+        yes : firstNo (planQuestions call h space) ≡ allYes
+        yes = plan-accepts call h space .1 (record { method = known; takes = kept (accept .small); accepted = accept; room = l })
+
+        given : outcomeBy (methodOf (o .method)) (h .initial) (goalState h) ≡ plan (v .moves)
+        given = ap (λ i. outcomeBy i (h .initial) (goalState h)) method ∙ v .outcome
+
+        promised : {k : ℕ} → k ≡ u .count → Promise (Arrives h) (asMethod by) (h .initial) (goalState h) (moves (take (2 * k) space′))
+        promised i =
+            let w = sheet-theorems .demand (asMethod by) h accept in
+            let same : w .0 ≡ v .moves = cc (w .1, v .outcome) in
+            subst (Promise (Arrives h) (asMethod by) (h .initial) (goalState h)) (same ∙ sym (front v i)) (w .2)
+
+        made : Plans (callOf o) h space z space′
+        unfolding planAnswer planSpace planOutcome
+        made = rw (u .made) (record {
           asked = sym yes;
-          answer = ap (λ k. answerOf (Made k (misplacedCount s g))) (v .count) ∙ sym (ap₂ (λ q o. planned q s g (planOf o)) yes given);
-          lent = v .written ∙ sym (ap₂ (λ q o. written q (flat (planOf o)) space) yes given);
-          told = λ k j f b o.
+          answer = ap (λ k. answerOf (Made k (misplacedCount (h .initial) (goalState h)))) (v .count) ∙ sym (ap₂ (λ q i. planned q (h .initial) (goalState h) (planOf i)) yes given);
+          lent = v .written ∙ sym (ap₂ (λ q i. written q (flat (planOf i)) space) yes given);
+          told = λ k j f b i.
               let count : u .count ≡ k = cc in
               let same : asMethod by ≡ b = cc in
-              subst (λ i. words.By i s g (moves (take (2 * k) space′))) same (told v (sym count) (accept .accepted .problem));
-          promise = λ k j f b o.
+              subst (λ j. words.By j (h .initial) (goalState h) (moves (take (2 * k) space′))) same (told v (sym count) (bounded accept .problem));
+          promise = λ k j f b i.
               let count : u .count ≡ k = cc in
               let same : asMethod by ≡ b = cc in
-              subst (λ i. PromiseWith ls i s g (moves (take (2 * k) space′))) same (promised v (sym count) accept);
+              subst (λ j. Promise (Arrives h) j (h .initial) (goalState h) (moves (take (2 * k) space′))) same (promised (sym count));
           head-count = λ k j f.
-              let misplaced : misplacedCount s g ≡ j = cc in
-              subst (HeadCountWith ls s g) misplaced (with-theorems .head-count ls s g accept);
-        }))
-          where
-            v : Ran (asMethod by) s g space (u .count) space′
-            v = u .ran
+              let misplaced : misplacedCount (h .initial) (goalState h) ≡ j = cc in
+              subst (HeadCount (Arrives h) (h .initial) (goalState h)) misplaced (sheet-theorems .head-count h accept);
+        })
 
-            yes : firstNo (planQuestionsWith ls m s g space) ≡ allYes
-            yes = plan-accepts ls m s g space .1 (known, accept, h)
-
-            given : outcomeBy (methodOf m) s g ≡ plan (v .moves)
-            given = ap (λ o. outcomeBy o s g) method ∙ v .outcome
-
--- ---- without lengths
-
-pub plain-way : {m : ℕ} {s g : State} {space : List ℕ} {r : Planned} {space′ : List ℕ} → PlansWith none m s g space r space′ → Plans m s g space r space′
-plain-way {m} {s} {g} {space} w =
-    record {
-      asked = w .asked ∙ ap firstNo (plan-none m s g space);
-      answer = w .answer ∙ as-before .plan m s g space;
-      lent = w .lent ∙ as-before .plan-space m s g space;
-      told = w .told;
-      promise = λ c d e by o. promise-plain (w .promise c d e by o);
-      head-count = λ c d e. head-count-plain (w .head-count c d e);
-    }
+      -- the goal list, which is lent on, is the goal state
+      pub made-way : 4 * length (h .initial) ≤ length space → {z : Planned} {space′ : List ℕ} → Solved (asMethod by) (h .initial) (h .goal) space z space′
+          → Plans (callOf o) h space z space′
+      made-way l {z} {space′} u = made l (subst (λ g. Solved (asMethod by) (h .initial) g space z space′) (sym (completed-same (h .initial) (h .goal))) u)

@@ -1,26 +1,24 @@
 -- What the answers of planning say, in document 01's numbers, and what the public functions promise. Assumes nothing.
 use Prim.Native.Nat.{ℕ, _*_, _≤_}
 use mathlib.Core.Path.{_≡_}
-use mathlib.Core.Bool.{Bool, true, false}
+use mathlib.Core.Bool.{Bool, true, false, _&&_, cond}
 use mathlib.Core.List.{List}
 use mathlib.Core.Option.{Option, none, some}
+use lib.Dec.{leb, ltb}
 use lib.ListN.{length, take}
 use Rattle.lists.specs.Lists.{overwrite}
 use Rattle.rows.specs.Rows.{Yard, Sized}
-use Rattle.blocks.specs.State.{State}
-use Rattle.blocks.specs.Position.{Accepted}
+use Rattle.blocks.specs.State.{State, most}
+use Rattle.blocks.specs.Position.{Bounded}
 use Rattle.blocks.specs.Move.{Plan}
 use Rattle.blocks.specs.Tests.{misplacedCount}
 use Rattle.blocks.specs.Method as method
 use Rattle.blocks.specs.Method.{plan, outcome, methodOf}
 use Rattle.blocks.specs.Steps as words
-use Rattle.blocks.specs.Question.{Asked, allYes, no′, firstNo, planQuestions}
+use Rattle.blocks.specs.Question.{Asked, allYes, no′, firstNo}
+use Rattle.blocks.specs.Sheet.{Sheet, goalState, Arrives, Call, panelMost, planQuestions}
 use Rattle.blocks.specs.Answer.{PlanAnswer, flat, moves, planAnswer, planSpace}
 use Rattle.blocks.specs.Demands.{HeadCount, Promise}
-use Rattle.blocks.specs.Length.{Lengths}
-use Rattle.blocks.specs.With.{planQuestionsWith, planAnswerWith, planSpaceWith}
-use Rattle.blocks.specs.WithDemands.{HeadCountWith, PromiseWith}
-use Rattle.blocks.specs.Panel.{planQuestionsUpTo, planAnswerUpTo, planSpaceUpTo}
 use Rattle.problem.specs.Known.{AtStart}
 use Rattle.choices.specs.Walks.{Unvisited}
 use Rattle.statuses.specs.declared.Mode.{Mode}
@@ -28,6 +26,7 @@ use Rattle.statuses.specs.declared.Mode.the-variants.{Clearing, Gn1, Gn2}
 use Rattle.planner.specs.declared.Planned.{Planned}
 use Rattle.planner.specs.declared.Planned.the-variants.{Refused, Made}
 use Rattle.planner.specs.declared.Method as declared
+use Rattle.planner.specs.declared.Call as declared-call
 use Rattle.planner.specs.declared.Named.{Named}
 use Rattle.planner.specs.declared.Named.the-variants.{By, Unknown}
 
@@ -64,34 +63,27 @@ askedOf (Made c d) = allYes
 
 -- Planning: the case, the numbers that are answered, the lent space whole; of the list that is written that the method's words give it, and demand 3; and what the
 -- count of misplaced blocks promises.
-pub record Plans (m : ℕ) (s g : State) (space : List ℕ) (r : Planned) (space′ : List ℕ) : Type 0 where
-  pub asked : askedOf r ≡ firstNo (planQuestions m s g space)
-  pub answer : answerOf r ≡ planAnswer m s g space
-  pub lent : space′ ≡ planSpace m s g space
-  pub told : (c d : ℕ) → r ≡ Made c d → (by : method.Method) → methodOf m ≡ some by → words.By by s g (moves (take (2 * c) space′))
-  pub promise : (c d : ℕ) → r ≡ Made c d → (by : method.Method) → methodOf m ≡ some by → Promise by s g (moves (take (2 * c) space′))
-  pub head-count : (c d : ℕ) → r ≡ Made c d → HeadCount s g d
+pub record Plans (call : Call) (h : Sheet) (space : List ℕ) (r : Planned) (space′ : List ℕ) : Type 0 where
+  pub asked : askedOf r ≡ firstNo (planQuestions call h space)
+  pub answer : answerOf r ≡ planAnswer call h space
+  pub lent : space′ ≡ planSpace call h space
+  pub told : (c d : ℕ) → r ≡ Made c d → (by : method.Method) → methodOf (call .method) ≡ some by
+      → words.By by (h .initial) (goalState h) (moves (take (2 * c) space′))
+  pub promise : (c d : ℕ) → r ≡ Made c d → (by : method.Method) → methodOf (call .method) ≡ some by
+      → Promise (Arrives h) by (h .initial) (goalState h) (moves (take (2 * c) space′))
+  pub head-count : (c d : ℕ) → r ≡ Made c d → HeadCount (Arrives h) (h .initial) (goalState h) d
 
--- The same with lengths: what is promised is under their rule.
-pub record PlansWith (ls : Lengths) (m : ℕ) (s g : State) (space : List ℕ) (r : Planned) (space′ : List ℕ) : Type 0 where
-  pub asked : askedOf r ≡ firstNo (planQuestionsWith ls m s g space)
-  pub answer : answerOf r ≡ planAnswerWith ls m s g space
-  pub lent : space′ ≡ planSpaceWith ls m s g space
-  pub told : (c d : ℕ) → r ≡ Made c d → (by : method.Method) → methodOf m ≡ some by → words.By by s g (moves (take (2 * c) space′))
-  pub promise : (c d : ℕ) → r ≡ Made c d → (by : method.Method) → methodOf m ≡ some by → PromiseWith ls by s g (moves (take (2 * c) space′))
-  pub head-count : (c d : ℕ) → r ≡ Made c d → HeadCountWith ls s g d
+-- The call of the code as one of the definitions: by the panel's entry, or by the office's.
+abbrev pub callOf : declared-call.Call → Call
+callOf call = record { method = call .method; limit = cond (call .panel) (some panelMost) none }
 
--- The same by an entry that takes at most `limit` blocks: on that many or fewer it is planning without a limit, and no list is written for more.
-pub record PlansUpTo (limit : ℕ) (ls : Lengths) (m : ℕ) (s g : State) (space : List ℕ) (r : Planned) (space′ : List ℕ) : Type 0 where
-  pub asked : askedOf r ≡ firstNo (planQuestionsUpTo limit ls m s g space)
-  pub answer : answerOf r ≡ planAnswerUpTo limit ls m s g space
-  pub lent : space′ ≡ planSpaceUpTo limit ls m s g space
-  pub alike : length s ≤ limit → PlansWith ls m s g space r space′
-  pub small : (c d : ℕ) → r ≡ Made c d → length s ≤ limit
+-- Question 19 as the code puts it, the panel's alone and where 2 is answered yes: n is beyond its limit.
+abbrev pub beyondᵇ : Bool → ℕ → Bool
+beyondᵇ panel n = panel && (leb n most && ltb panelMost n)
 
 -- A problem that has been checked, with its rows as the check left them, and room for the plan.
 pub record Solvable (s g : State) (y : Yard) (out : List ℕ) : Type 0 where
-  pub problem : Accepted s g
+  pub problem : Bounded s g
   pub sized : Sized y
   pub start : AtStart s g y
   pub visits : Unvisited y

@@ -1,11 +1,9 @@
 // Planning by the three methods (document 01, "The three methods"; document 001, section 3.2).
 ghost use mathlib.Core.Path.{_≡_};
-ghost use mathlib.Core.Bool.{_&&_};
-ghost use lib.Dec.{leb, ltb};
-ghost use Rattle.blocks.specs.State.{most};
 ghost use Rattle.blocks.specs.Method.{methodOf};
-ghost use Rattle.blocks.specs.Length.{given};
-ghost use Rattle.planner.specs.Answers.{asMethod, namedAs, modeOf, isUs, Plans, PlansWith, PlansUpTo, Solvable, Ran, Solved};
+ghost use Rattle.lengths.specs.Checks.{sheetOf};
+ghost use Rattle.planner.specs.Answers.{asMethod, namedAs, modeOf, isUs, callOf, beyondᵇ, Plans, Solvable, Ran, Solved};
+use lengths::Given;
 use numberset::WORDS;
 use problem::Checked;
 use rows::MOST;
@@ -45,54 +43,41 @@ pub fn method_of(number: u16) -> Named
     }
 }
 
-// Questions 1 to 10, and then the plan of the method, written from the front of the lent space, for any numbers and lists.
-pub fn plan(method: u16, initial: &[u16], goal: &[u16], out: &mut [u16]) -> Planned
-    ensures { λ r. ⌜ Plans method (now (initial .entry)) (now (goal .entry)) (now (out .entry)) r (now (out .exit)) ⌝ }
-{
-    plan_with(method, initial, goal, false, &initial[..0], out)
+// A call of planning: the method by its number, and whether it is the cabin panel's, which takes at most 600 blocks.
+pub struct Call {
+    pub method: u16,
+    pub panel: bool,
 }
 
-// The same with questions 16 to 18 after 9; where the problem is not measured, the lengths are not looked at.
-pub fn plan_with(
-    method: u16,
+// document 02, Job 5: the panel "takes at most 600 slabs".
+const PANEL_MOST: usize = 600;
+
+// The questions of planning, and then the plan of the method, written from the front of the lent space, for any numbers and lists.
+pub fn plan(
+    call: Call,
+    given: Given,
     initial: &[u16],
     goal: &[u16],
-    measured: bool,
     lengths: &[u16],
     out: &mut [u16],
 ) -> Planned
-    ensures { λ r. ⌜ PlansWith (given measured (now (lengths .entry))) method (now (initial .entry)) (now (goal .entry)) (now (out .entry)) r (now (out .exit)) ⌝ }
+    ensures { λ r. ⌜ Plans (callOf call) (sheetOf given (now (initial .entry)) (now (goal .entry)) (now (lengths .entry))) (now (out .entry)) r (now (out .exit)) ⌝ }
 {
-    plan_up_to(MOST, method, initial, goal, measured, lengths, out)
-}
-
-// The same by an entry that takes at most `limit` blocks: with question 19 directly after 2.
-pub fn plan_up_to(
-    limit: usize,
-    method: u16,
-    initial: &[u16],
-    goal: &[u16],
-    measured: bool,
-    lengths: &[u16],
-    out: &mut [u16],
-) -> Planned
-    ensures { λ r. ⌜ PlansUpTo limit (given measured (now (lengths .entry))) method (now (initial .entry)) (now (goal .entry)) (now (out .entry)) r (now (out .exit)) ⌝ }
-{
-    let named = method_of(method);
+    let named = method_of(call.method);
     let Named::By(by) = named else {
         return Planned::Refused {
             number: 1,
             place: 0,
         };
     };
-    if beyond(limit, initial.len()) {
+    if beyond(call.panel, initial.len()) {
         return Planned::Refused {
             number: 19,
             place: 0,
         };
     }
     let mut yard = [[0u16; ROW]; ROWS];
-    let checked = lengths::examine(initial, goal, measured, lengths, &mut yard);
+    let checked = lengths::examine(given, initial, goal, lengths, &mut yard);
     if let Checked::Refused { number, place } = checked {
         return Planned::Refused { number, place };
     }
@@ -105,11 +90,11 @@ pub fn plan_up_to(
     solve(by, initial, goal, &mut yard, out)
 }
 
-// Question 19, which is put where 2 is answered yes: whether n is beyond the limit.
-fn beyond(limit: usize, n: usize) -> bool
-    ensures { λ r. ⌜ r ≡ (leb n most && ltb limit n) ⌝ }
+// Question 19, which is the panel's alone and is put where 2 is answered yes: whether n is beyond its limit.
+fn beyond(panel: bool, n: usize) -> bool
+    ensures { λ r. ⌜ r ≡ beyondᵇ panel n ⌝ }
 {
-    (n <= MOST) & (limit < n)
+    panel & ((n <= MOST) & (PANEL_MOST < n))
 }
 
 // The plan of a method for a problem that has been checked, whose rows are as the check left them, and room for the plan. What is misplaced is counted first:

@@ -1,45 +1,31 @@
 -- The check of a problem: what each of its ways out answers. Assumes nothing.
 use Prim.Native.Nat.{ℕ, _≤_, _<_}
 use mathlib.Core.Path.{_≡_, refl, sym, ap, _∙_}
-use mathlib.Core.Logic.{inl, inr, _≢_}
+use mathlib.Core.Logic.{_≢_}
 use mathlib.Core.List.{[], _∷_, _++_}
 use native.Mathlib.Omega.{arith}
 use lib.ListN.{length}
+use Rattle.lists.proofs.ReflectLaws.{to-true, to-false, eqb-reflects, leb-reflects}
 use Rattle.rows.specs.Rows.{Yard, Fresh}
 use Rattle.rows.proofs.RowLaws.{within-none, within-then, within-wider}
 use Rattle.blocks.specs.State.{State, most}
-use Rattle.blocks.specs.Position as position
-use Rattle.blocks.specs.Question as question
-use Rattle.blocks.specs.Question.{no′, allYes, firstNo, asksSize, asksSame, stateQuestions, problemQuestions}
-use Rattle.blocks.specs.Answer.{checked, checkAnswer}
+use Rattle.blocks.specs.Position.{Bounded}
+use Rattle.blocks.specs.Question.{no′, allYes, firstNo, asksSize, asksSame, stateQuestions, listQuestions, problemQuestions}
 use Rattle.blocks.proofs.QuestionLaws.{first-no, first-no-append, first-no-front}
-use Rattle.blocks.proofs.DecidedLaws.{size-decided, same-decided, accepts, refuses}
-use Rattle.problem.specs.Checked.{askedOf, answerOf, Checks, faultOf, Surveyable, Surveyed, Examines}
+use Rattle.blocks.proofs.DecidedLaws.{size-decided, same-decided, accepts}
+use Rattle.problem.specs.Checked.{askedOf, faultOf, Surveyable, Surveyed, Examines}
 use Rattle.problem.specs.declared.Checked.{Checked}
 use Rattle.problem.specs.declared.Checked.the-variants.{Accepted, Refused}
 use Rattle.problem.specs.declared.Fault.{Fault}
 use Rattle.problem.specs.declared.Fault.the-variants.{Sound, Outside, Shared, Floating}
 
--- the case of the answer fixes its numbers
-numbers : (r : Checked) → answerOf r ≡ checked (askedOf r)
-numbers Accepted = refl
-numbers (Refused k p) = refl
-
-checks : {s g : State} {r : Checked} → askedOf r ≡ firstNo (problemQuestions s g) → Checks s g r
-unfolding checkAnswer
-checks {r = r} e = record { asked = e; answer = numbers r ∙ ap checked e }
-
--- what a case of the answer says of the problem
-module _ {s g : State} {r : Checked} (w : Checks s g r) where
-  pub accepted : r ≡ Accepted → position.Accepted s g
-  accepted e = accepts s g .0 (sym (w .asked) ∙ ap askedOf e)
-
-  pub refused-by : {k p : ℕ} → r ≡ Refused k p → question.Refused s g k p
-  refused-by {k} {p} e = refuses s g k p .0 (sym (w .asked) ∙ ap askedOf e)
+-- a problem that is accepted
+pub accepted : {s g : State} {r : Checked} {y y′ : Yard} → Examines s g r y y′ → r ≡ Accepted → Bounded s g
+accepted {s} {g} w e = accepts s g .0 (sym (w .asked) ∙ ap askedOf e)
 
 -- on a refusal nothing is said of the rows
 refused : {s g : State} {k p : ℕ} {y : Yard} → no′ k p ≡ firstNo (problemQuestions s g) → Examines s g (Refused k p) y y
-refused e = record { checks = checks e; known = λ z. let y : _≡_ {A = ℕ} 0 1 = cc in absurd (omega arith); within = within-none }
+refused e = record { asked = e; known = λ z. let y : _≡_ {A = ℕ} 0 1 = cc in absurd (omega arith); within = within-none }
 
 -- an answer without a "no" is that of a sound state
 all-sound : (k₁ k₂ k₃ : ℕ) (f : Fault) → allYes ≡ faultOf k₁ k₂ k₃ f → f ≡ Sound
@@ -51,16 +37,16 @@ all-sound k₁ k₂ k₃ (Floating p) e = let y : _≡_ {A = ℕ} 0 1 = cc in ab
 -- question 2 is answered no
 pub long-way : {s g : State} {y : Yard} → most < length s → Examines s g (Refused 2 0) y y
 unfolding problemQuestions asksSize
-long-way {s} {g} h = refused (sym (refuses s g 2 0 .1 (inl (refl, (refl, λ l. omega arith)))))
+long-way {s} {g} h = refused (rw (to-false (leb-reflects (length s) most) (λ l. omega (arith, h, l))))
 
 -- question 3 is answered no
 pub uneven-way : {s g : State} {y : Yard} → length s ≤ most → length g ≢ length s → Examines s g (Refused 3 0) y y
-unfolding problemQuestions asksSize asksSame
-uneven-way {s} {g} h n = refused (sym (refuses s g 3 0 .1 (inr (h, inl (refl, (refl, n))))))
+unfolding problemQuestions listQuestions asksSize asksSame
+uneven-way {s} {g} h n = refused (rw (to-true (leb-reflects (length s) most) h, to-false (eqb-reflects (length g) (length s)) n))
 
 -- with both answered yes the questions of the states are left
 states : (s g : State) → length s ≤ most → length g ≡ length s → firstNo (stateQuestions 4 5 6 s ++ stateQuestions 7 8 9 g) ≡ firstNo (problemQuestions s g)
-unfolding problemQuestions asksSize asksSame
+unfolding problemQuestions listQuestions asksSize asksSame
 states s g h e =
     let front = asksSize (length s) ∷ asksSame s g ∷ [] in
     sym (first-no-append front (stateQuestions 4 5 6 s ++ stateQuestions 7 8 9 g) (first-no front (size-decided (length s), λ _. (same-decided s g, λ _. tt)) allYes .1 (h, (e, tt))))
@@ -86,7 +72,7 @@ pub goal-way : {s g : State} {f f′ : Fault} {y₀ y y′ : Yard} {r : Checked}
 goal-way {s} {g} {f} {f′} {y₀} {y} {y′} h e w sound v q =
     let yes-all : firstNo (stateQuestions 4 5 6 s) ≡ allYes = sym (w .answer 4 5 6) ∙ ap (faultOf 4 5 6) sound in
     record {
-      checks = checks (q ∙ v .answer 7 8 9 ∙ sym (first-no-append (stateQuestions 4 5 6 s) (stateQuestions 7 8 9 g) yes-all) ∙ states s g h e);
+      asked = q ∙ v .answer 7 8 9 ∙ sym (first-no-append (stateQuestions 4 5 6 s) (stateQuestions 7 8 9 g) yes-all) ∙ states s g h e;
       known = λ z.
           record {
             loads = rw (v .within .below 0 (omega arith)) (w .known sound .0);
@@ -101,7 +87,7 @@ pub initial-way : {s g : State} {f : Fault} {y₀ y : Yard} {r : Checked} → le
     → Surveyed s g f 0 y₀ y → f ≢ Sound → askedOf r ≡ faultOf 4 5 6 f → Examines s g r y₀ y
 initial-way {s} {g} {f} h e w unsound q =
     record {
-      checks = checks (q ∙ sym (at f unsound (sym (w .answer 4 5 6))) ∙ states s g h e);
+      asked = q ∙ sym (at f unsound (sym (w .answer 4 5 6))) ∙ states s g h e;
       known = λ z. absurd (unsound (all-sound 4 5 6 f (sym (ap askedOf z) ∙ q)));
       within = within-wider (w .within) (omega arith) (omega arith);
     }

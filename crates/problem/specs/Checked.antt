@@ -5,7 +5,7 @@ use lib.ListN.{length}
 use Rattle.rows.specs.Rows.{Yard, row, Blank, Within}
 use Rattle.blocks.specs.State.{State, most}
 use Rattle.blocks.specs.Question.{Asked, allYes, no′, firstNo, stateQuestions, problemQuestions}
-use Rattle.blocks.specs.Answer.{CheckAnswer, checkAnswer}
+use Rattle.blocks.specs.Answer.{CheckAnswer}
 use Rattle.problem.specs.Known.{Loads, Standings, AtStart}
 use Rattle.problem.specs.declared.Checked.{Checked}
 use Rattle.problem.specs.declared.Checked.the-variants.{Accepted, Refused}
@@ -21,11 +21,6 @@ answerOf (Refused k p) = record { number = k; place = p }
 abbrev pub askedOf : Checked → Asked
 askedOf Accepted = allYes
 askedOf (Refused k p) = no′ k p
-
--- The check of a problem: the case, and document 01's numbers.
-pub record Checks (s g : State) (r : Checked) : Type 0 where
-  pub asked : askedOf r ≡ firstNo (problemQuestions s g)
-  pub answer : answerOf r ≡ checkAnswer s g
 
 -- The first "no" to the three questions of one state, numbered as the state's place in the problem asks.
 abbrev pub faultOf : ℕ → ℕ → ℕ → Fault → Asked
@@ -48,8 +43,8 @@ pub record Surveyed (s g : State) (r : Fault) (loads : ℕ) (y y′ : Yard) : Ty
   pub known : r ≡ Sound → Loads s (row y′ loads) × Standings s g (row y′ (loads + 1))
   pub within : Within loads (loads + 2) y y′
 
--- The check of a problem over lent rows: what is known of it where it is accepted. Only the first four rows have changed.
+-- The check of a problem over lent rows: the case, and what is known of it where it is accepted. Only the first four rows have changed.
 pub record Examines (s g : State) (r : Checked) (y y′ : Yard) : Type 0 where
-  pub checks : Checks s g r
+  pub asked : askedOf r ≡ firstNo (problemQuestions s g)
   pub known : r ≡ Accepted → AtStart s g y′
   pub within : Within 0 4 y y′

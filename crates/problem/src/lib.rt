@@ -10,8 +10,7 @@ ghost use Rattle.blocks.specs.Question.{firstOutside};
 ghost use Rattle.blocks.specs.Answer.{firstDifference};
 ghost use Rattle.rows.specs.Rows.{Fresh};
 ghost use Rattle.problem.specs.Known.{Fillable, Filled, standsAs, Standable, Climbable, Climbed, rightIn, misplacedIn, Movable, MovedTo};
-ghost use Rattle.problem.specs.Checked.{askedOf, Checks, faultOf, Surveyable, Surveyed, Examines};
-use rows::CHECKED;
+ghost use Rattle.problem.specs.Checked.{askedOf, faultOf, Surveyable, Surveyed, Examines};
 use rows::GOAL_LOADS;
 use rows::LOADS;
 use rows::MOST;
@@ -24,15 +23,7 @@ pub enum Checked {
     Refused { number: u16, place: u16 },
 }
 
-// Questions 2 to 9, put to any two lists.
-pub fn check(initial: &[u16], goal: &[u16]) -> Checked
-    ensures { λ r. ⌜ Checks (now (initial .entry)) (now (goal .entry)) r ⌝ }
-{
-    let mut rows = [[0u16; ROW]; CHECKED];
-    examine(initial, goal, &mut rows)
-}
-
-// The same over lent rows that are zero. Where the problem is accepted they hold the loads of both states, and how the blocks stand.
+// Questions 2 to 9, put to any two lists, over lent rows that are zero. Where the problem is accepted they hold the loads of both states, and how the blocks stand.
 pub fn examine(initial: &[u16], goal: &[u16], rows: &mut [[u16; ROW]]) -> Checked
     requires { ⌜ Fresh 4 (now rows) ⌝ }
     ensures { λ r. ⌜ Examines (now (initial .entry)) (now (goal .entry)) r (now (rows .entry)) (now (rows .exit)) ⌝ }

@@ -5,19 +5,18 @@ use mathlib.Core.Bool.{Bool}
 use mathlib.Core.List.{List, [], _∷_}
 use native.Mathlib.Omega.{arith}
 use lib.ListN.{length, length-append}
-use Rattle.blocks.specs.State.{State, most}
+use Rattle.blocks.specs.State.{most}
 use Rattle.blocks.specs.Move.{Plan}
 use Rattle.blocks.specs.Question.{Asked, allYes, no′, firstNo}
-use Rattle.blocks.specs.Method.{planOf, planOutcome}
-use Rattle.blocks.specs.Length.{Lengths}
-use Rattle.blocks.specs.With.{planQuestionsWith, planAnswerWith}
+use Rattle.blocks.specs.Sheet.{Sheet, office, planQuestions}
+use Rattle.blocks.specs.Answer.{planFor, planAnswer}
 use Rattle.records.specs.Records.{recordBytes}
 use Rattle.records.specs.declared.Kind.the-variants.{Pl, No}
 use Rattle.records.proofs.WriteLaws.{length-record}
 use Rattle.sheets.specs.declared.Head.{Head}
 use Rattle.sheets.specs.declared.Head.the-variants.{Missing, There}
-use Rattle.sheets.specs.Sheets.{headAt, nows, goals}
-use Rattle.responder.specs.Responses.{lengthsOf, lent, sheetQuestions, refusalBytes, moveBytes, planBytes, planRecords, reply, sheetResponse}
+use Rattle.sheets.specs.Sheets.{headAt}
+use Rattle.responder.specs.Responses.{sheetIn, lent, programQuestions, refusalBytes, moveBytes, planBytes, planRecords, reply, sheetResponse}
 use Rattle.responder.specs.Responses.{responseBy, responseTo}
 use Rattle.responder.specs.Answers.{longest}
 use Rattle.responder.specs.Bounds.{Fits}
@@ -34,27 +33,20 @@ plan-fits c d p h =
     let both = length-append (recordBytes Pl (c ∷ d ∷ [])) (moveBytes p) in
     omega (arith, both, length-record Pl c d, size-pl, length-move-bytes p, longest-is)
 
-records-fit : (ls : Lengths) (m : ℕ) (s g : State) (space : List ℕ) → firstNo (planQuestionsWith ls m s g space) ≡ allYes
-    → length (planRecords ls m s g space) ≤ longest
-records-fit ls m s g space all =
-    let a = planAnswerWith ls m s g space in
-    plan-fits (a .count) (a .misplaced) (planOf (planOutcome m s g)) (lifts-le ls m s g space all)
+records-fit : (m : ℕ) (h : Sheet) (space : List ℕ) → firstNo (planQuestions (office m) h space) ≡ allYes → length (planRecords m h space) ≤ longest
+records-fit m h space all =
+    let a = planAnswer (office m) h space in
+    plan-fits (a .count) (a .misplaced) (planFor (office m) h) (lifts-le (office m) h space all)
 
 sheet-fits : (t : Bool) (n m : ℕ) (bytes : List ℕ) → length (sheetResponse t n m bytes) ≤ longest
 unfolding sheetResponse
-sheet-fits t n m bytes = by (firstNo (sheetQuestions t n m bytes)) (plan-yes t n m bytes)
+sheet-fits t n m bytes = by (firstNo (programQuestions t n m bytes)) (plan-yes t n m bytes)
   where
-    ls : Lengths
-    ls = lengthsOf t n bytes
+    h : Sheet
+    h = sheetIn t n bytes
 
-    s : State
-    s = nows bytes 0 n
-
-    g : State
-    g = goals bytes 0 n
-
-    by : (a : Asked) → (a ≡ allYes → firstNo (planQuestionsWith ls m s g (lent n)) ≡ allYes) → length (reply a (planRecords ls m s g (lent n))) ≤ longest
-    by allYes all = records-fit ls m s g (lent n) (all refl)
+    by : (a : Asked) → (a ≡ allYes → firstNo (planQuestions (office m) h (lent n)) ≡ allYes) → length (reply a (planRecords m h (lent n))) ≤ longest
+    by allYes all = records-fit m h (lent n) (all refl)
     by (no′ k p) all = refusal-fits k p
 
 pub answer-bound : Fits

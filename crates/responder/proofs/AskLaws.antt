@@ -10,8 +10,8 @@ use lib.Seq.{length-take-le}
 use Rattle.blocks.specs.State.{most}
 use Rattle.blocks.specs.Question.{isMethod}
 use Rattle.blocks.specs.Method.{methodOf}
-use Rattle.blocks.specs.Length.{given}
-use Rattle.planner.specs.Answers.{namedAs, PlansWith}
+use Rattle.blocks.specs.Sheet.{office}
+use Rattle.planner.specs.Answers.{namedAs, Plans}
 use Rattle.planner.specs.declared.Method.{Method}
 use Rattle.planner.specs.declared.Named.{Named}
 use Rattle.planner.specs.declared.Named.the-variants.{By, Unknown}
@@ -20,7 +20,7 @@ use Rattle.planner.specs.declared.Planned.the-variants.{Refused}
 use Rattle.sheets.specs.declared.Sheet.{Sheet}
 use Rattle.sheets.specs.declared.Sheet.the-variants.{Headless, Long, Broken, Whole}
 use Rattle.sheets.specs.Sheets.{lengthCount}
-use Rattle.responder.specs.Answers.{refusedAs, Askable, AsksBy, Asks}
+use Rattle.responder.specs.Answers.{refusedAs, Askable, partsOf, AsksBy, Asks}
 
 -- ---- question 1 before a "no"
 
@@ -51,10 +51,11 @@ module _ {sheet : Sheet} (size : ℕ) (initial goal lengths space : List ℕ) wh
     pub tail-way : {r : Planned} → size ≢ end → r ≡ refusedAs m 12 (2 * n + k + 1) → Asks sheet size initial goal lengths space r space
     tail-way ne f = case e (record { tail = λ _. f ∙ ap (λ i. refusedAs m 12 (2 * n + i + 1)) count; plans = λ x. absurd (ne x) })
 
-    pub plan-way : {r : Planned} {space′ : List ℕ} → size ≡ end → PlansWith (given t (take k lengths)) m (take n initial) (take n goal) space r space′
+    pub plan-way : {r : Planned} {space′ : List ℕ} → size ≡ end
+        → Plans (office m) (partsOf t n k initial goal lengths) space r space′
         → Asks sheet size initial goal lengths space r space′
     plan-way {r} {space′} x v =
-        let asked = subst (λ i. PlansWith (given t (take i lengths)) m (take n initial) (take n goal) space r space′) count v in
+        let asked = subst (λ i. Plans (office m) (partsOf t n i initial goal lengths) space r space′) count v in
         case e (record { tail = λ ne. absurd (ne x); plans = λ _. asked })
 
 -- ---- of a whole sheet

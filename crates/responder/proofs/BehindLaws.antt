@@ -3,12 +3,11 @@ use Prim.Native.Nat.{ℕ, _*_, _≤_}
 use mathlib.Core.Path.{_≡_, refl}
 use mathlib.Core.Bool.{Bool, true, false, cond}
 use mathlib.Core.List.{List, [], _∷_, _++_}
+use mathlib.Core.Option.{none}
 use lib.ListN.{length}
-use Rattle.blocks.specs.State.{State}
 use Rattle.blocks.specs.Method.{planOutcome}
 use Rattle.blocks.specs.Question.{Question, allYes, no′, firstNo, AllYes, asksMethod, asksRoom, asksPlan}
-use Rattle.blocks.specs.Length.{Lengths}
-use Rattle.blocks.specs.With.{problemQuestionsWith, planQuestionsWith}
+use Rattle.blocks.specs.Sheet.{Sheet, goalState, office, sheetQuestions, planQuestions}
 use Rattle.blocks.proofs.QuestionLaws.{Decides, first-no, first-no-append}
 use Rattle.blocks.proofs.DecidedLaws.{room-decided}
 
@@ -36,10 +35,11 @@ pub without-yes : (qs ys rs : List Question) → Decides ys → AllYes ys → fi
 without-yes qs ys rs d y = same-behind qs (ys ++ rs) rs (λ _. first-no-append ys rs (first-no ys d allYes .1 y))
 
 -- planning with room for the plan
-pub without-room : (ls : Lengths) (m : ℕ) (s g : State) (space : List ℕ) → 4 * length s ≤ length space
-    → firstNo (planQuestionsWith ls m s g space) ≡ firstNo (asksMethod m ∷ (problemQuestionsWith ls s g ++ (asksPlan (planOutcome m s g) ∷ [])))
-unfolding planQuestionsWith asksRoom
-without-room ls m s g space h =
-    let room = asksRoom (4 * length s) space in
-    let last = asksPlan (planOutcome m s g) ∷ [] in
-    without-yes (asksMethod m ∷ problemQuestionsWith ls s g) (room ∷ []) last (room-decided (4 * length s) space, λ _. tt) (h, tt)
+pub without-room : (m : ℕ) (h : Sheet) (space : List ℕ) → 4 * length (h .initial) ≤ length space
+    → firstNo (planQuestions (office m) h space)
+    ≡ firstNo (asksMethod m ∷ (sheetQuestions none h ++ (asksPlan (planOutcome m (h .initial) (goalState h)) ∷ [])))
+unfolding planQuestions asksRoom
+without-room m h space l =
+    let room = asksRoom (4 * length (h .initial)) space in
+    let last = asksPlan (planOutcome m (h .initial) (goalState h)) ∷ [] in
+    without-yes (asksMethod m ∷ sheetQuestions none h) (room ∷ []) last (room-decided (4 * length (h .initial)) space, λ _. tt) (l, tt)

@@ -8,11 +8,11 @@ use native.Mathlib.Omega.{arith}
 use lib.ListN.{length}
 use Rattle.blocks.specs.Question.{Question, allYes, no′, firstNo, AllYes, FirstNo, IsMethod, isMethod, asksMethod, asksSize}
 use Rattle.blocks.specs.Method.{methodOf}
-use Rattle.blocks.specs.With.{planQuestionsWith}
+use Rattle.blocks.specs.Sheet.{office, planQuestions}
 use Rattle.lists.proofs.ReflectLaws.{Reflects, reflects-iff, eqb-reflects, leb-reflects}
 use Rattle.blocks.proofs.QuestionLaws.{Decided, Decides, first-no, decides-append}
 use Rattle.blocks.proofs.DecidedLaws.{method-decided, size-decided}
-use Rattle.blocks.proofs.WithLaws.{plan-decides}
+use Rattle.blocks.proofs.SheetLaws.{plan-decides}
 use Rattle.records.specs.Records.{entriesAt}
 use Rattle.records.specs.There.{AllThere, FirstMissing}
 use Rattle.records.specs.declared.Kind.{Kind}
@@ -20,7 +20,7 @@ use Rattle.records.specs.declared.Kind.the-variants.{Nw, Gl, Ln}
 use Rattle.records.proofs.EntryLaws.{length-entries}
 use Rattle.records.proofs.ThereLaws.{all-room, all-there, first-missing, missing-unique, missing-one}
 use Rattle.sheets.specs.Sheets.{lengthCount, nowsAt, goalsAt, lengthsAt, endAt, nows, goals}
-use Rattle.responder.specs.Responses.{asksRecords, asksNows, asksGoals, asksLengthRecords, asksTail, recordQuestions, lengthsOf, lent, sheetQuestions}
+use Rattle.responder.specs.Responses.{asksRecords, asksNows, asksGoals, asksLengthRecords, asksTail, recordQuestions, sheetIn, lent, programQuestions}
 
 -- ---- the rows
 
@@ -88,23 +88,23 @@ module _ (t : Bool) (n : ℕ) (bytes : List ℕ) where
 
 module _ (t : Bool) (n m : ℕ) (bytes : List ℕ) where
   abbrev asked : List Question
-  asked = planQuestionsWith (lengthsOf t n bytes) m (nows bytes 0 n) (goals bytes 0 n) (lent n)
+  asked = planQuestions (office m) (sheetIn t n bytes) (lent n)
 
   pub asked-decides : Decides asked
-  asked-decides = plan-decides (lengthsOf t n bytes) m (nows bytes 0 n) (goals bytes 0 n) (lent n)
+  asked-decides = plan-decides (office m) (sheetIn t n bytes) (lent n)
 
-  pub sheet-decides : Decides (sheetQuestions t n m bytes)
-  unfolding sheetQuestions
+  pub sheet-decides : Decides (programQuestions t n m bytes)
+  unfolding programQuestions
   sheet-decides = (method-decided m, λ _. decides-append (middle t n bytes) asked (middle-decides t n bytes) (λ _. asked-decides))
 
   -- all yes, or a "no" of number k and place p, exactly where the sentences say so
-  pub sheet-accepts : (firstNo (sheetQuestions t n m bytes) ≡ allYes) ↔ AllYes (sheetQuestions t n m bytes)
-  sheet-accepts = first-no (sheetQuestions t n m bytes) sheet-decides allYes
+  pub sheet-accepts : (firstNo (programQuestions t n m bytes) ≡ allYes) ↔ AllYes (programQuestions t n m bytes)
+  sheet-accepts = first-no (programQuestions t n m bytes) sheet-decides allYes
 
-  pub sheet-refuses : (k p : ℕ) → (firstNo (sheetQuestions t n m bytes) ≡ no′ k p) ↔ FirstNo (sheetQuestions t n m bytes) k p
-  sheet-refuses k p = first-no (sheetQuestions t n m bytes) sheet-decides (no′ k p)
+  pub sheet-refuses : (k p : ℕ) → (firstNo (programQuestions t n m bytes) ≡ no′ k p) ↔ FirstNo (programQuestions t n m bytes) k p
+  sheet-refuses k p = first-no (programQuestions t n m bytes) sheet-decides (no′ k p)
 
   -- planning is answered yes where the sheet is
-  pub plan-yes : firstNo (sheetQuestions t n m bytes) ≡ allYes → firstNo asked ≡ allYes
-  unfolding sheetQuestions
+  pub plan-yes : firstNo (programQuestions t n m bytes) ≡ allYes → firstNo asked ≡ allYes
+  unfolding programQuestions
   plan-yes e = first-no asked asked-decides allYes .1 (sheet-accepts .0 e .1 .1 .1 .1 .1 .1)

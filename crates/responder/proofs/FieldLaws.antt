@@ -10,6 +10,7 @@ use Rattle.blocks.specs.State.{State, most, put}
 use Rattle.blocks.specs.Move.{_⟶_, Plan, LegalPlan}
 use Rattle.blocks.specs.Method.{planOutcome}
 use Rattle.blocks.specs.Question.{Question, AllYes, FirstNo, asksMethod, asksSize, asksOutside, asksShared, asksFloating, asksPlan, stateQuestions}
+use Rattle.blocks.specs.Sheet.{Sheet, goalState}
 use Rattle.blocks.specs.Length.{Lengths, asksOverhang, overhangQuestions}
 use Rattle.blocks.proofs.StateLaws.{length-put}
 use Rattle.blocks.proofs.QuestionLaws.{sentence-append}
@@ -21,7 +22,7 @@ use Rattle.records.proofs.RoundTrip.{round-trip, small-nil, small-append}
 use Rattle.sheets.specs.Sheets.{nows, goals}
 use Rattle.sheets.proofs.PlaceLaws.{length-count-le}
 use Rattle.sheets.proofs.SheetLaws.{nows-le, goals-le}
-use Rattle.responder.specs.Responses.{asksNows, asksGoals, asksLengthRecords, asksTail, recordQuestions, lengthsOf, refusalBytes, moveBytes, planBytes}
+use Rattle.responder.specs.Responses.{asksNows, asksGoals, asksLengthRecords, asksTail, recordQuestions, sheetIn, refusalBytes, moveBytes, planBytes}
 use Rattle.responder.specs.Order.{fourOn}
 use Rattle.responder.specs.Refusals.{ProgramRefused}
 
@@ -61,22 +62,28 @@ overhang-sayable (some l) s g k p small even (inl (e, f)) = (omega arith, omega 
 overhang-sayable (some l) s g k p small even (inr (_, inl (e, f))) = (omega arith, omega (arith, f .high))
 overhang-sayable (some l) s g k p small even (inr (_, inr (_, f))) = absurd f
 
-four-sayable : (m : ℕ) (ls : Lengths) (s g : State) (k p : ℕ) → length s ≤ most → length g ≤ most → FirstNo (fourOn m ls s g) k p → Sayable k p
+four-sayable : (m : ℕ) (h : Sheet) (k p : ℕ) → length (h .initial) ≤ most → length (h .goal) ≤ most → FirstNo (fourOn m h) k p → Sayable k p
 unfolding asksPlan
-four-sayable m ls s g k p small even f = first (sentence-append (stateQuestions 4 5 6 s) (stateQuestions 7 8 9 g ++ (over ++ last)) k p .0 f)
+four-sayable m h k p small even f = first (sentence-append (stateQuestions 4 5 6 (h .initial)) (stateQuestions 7 8 9 (h .goal) ++ (over ++ last)) k p .0 f)
   where
+    s : State
+    s = h .initial
+
+    g : State
+    g = h .goal
+
     over : List Question
-    over = overhangQuestions ls s g
+    over = overhangQuestions (h .lengths) s g
 
     last : List Question
-    last = asksPlan (planOutcome m s g) ∷ []
+    last = asksPlan (planOutcome m s (goalState h)) ∷ []
 
-    thirteen : FirstNo (asksPlan (planOutcome m s g) ∷ []) k p → Sayable k p
+    thirteen : FirstNo (asksPlan (planOutcome m s (goalState h)) ∷ []) k p → Sayable k p
     thirteen (inl (e, (place, _))) = (omega arith, omega arith)
     thirteen (inr (_, f)) = absurd f
 
     third : FirstNo over k p ⊎ (AllYes over × FirstNo last k p) → Sayable k p
-    third (inl f) = overhang-sayable ls s g k p small even f
+    third (inl f) = overhang-sayable (h .lengths) s g k p small even f
     third (inr (_, f)) = thirteen f
 
     second : FirstNo (stateQuestions 7 8 9 g) k p ⊎ (AllYes (stateQuestions 7 8 9 g) × FirstNo (over ++ last) k p) → Sayable k p
@@ -94,7 +101,7 @@ refused-sayable bytes k p (ProgramRefused.behind t n m _ (inl (e, (place, _)))) 
 refused-sayable bytes k p (ProgramRefused.behind t n m _ (inr (_, inl (e, (place, _))))) = (omega arith, omega arith)
 refused-sayable bytes k p (ProgramRefused.behind t n m _ (inr (_, inr (small, rest)))) = by rest
   where
-    by : FirstNo (recordQuestions t n bytes ++ fourOn m (lengthsOf t n bytes) (nows bytes 0 n) (goals bytes 0 n)) k p → Sayable k p
+    by : FirstNo (recordQuestions t n bytes ++ fourOn m (sheetIn t n bytes)) k p → Sayable k p
     by (inl (e, (i, w, place))) = (omega arith, omega (arith, w .within))
     by (inr (_, inl (e, (i, w, place)))) = (omega arith, omega (arith, w .within))
     by (inr (_, inr (_, inl (e, (i, w, place))))) = (omega arith, omega (arith, w .within, length-count-le t n))
@@ -102,7 +109,7 @@ refused-sayable bytes k p (ProgramRefused.behind t n m _ (inr (_, inr (small, re
     by (inr (_, inr (_, inr (_, inr (_, f))))) =
         let few : length (nows bytes 0 n) ≤ most = omega (arith, nows-le bytes 0 n) in
         let fewer : length (goals bytes 0 n) ≤ most = omega (arith, goals-le bytes 0 n) in
-        four-sayable m (lengthsOf t n bytes) (nows bytes 0 n) (goals bytes 0 n) k p few fewer f
+        four-sayable m (sheetIn t n bytes) k p few fewer f
 
 pub refusal-bytes : (bytes : List ℕ) (k p : ℕ) → ProgramRefused bytes k p → Bytes (refusalBytes k p)
 refusal-bytes bytes k p r = let h = refused-sayable bytes k p r in record-bytes No k p (omega (arith, h .0)) (omega (arith, h .1))

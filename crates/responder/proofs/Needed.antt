@@ -3,17 +3,15 @@
 use Prim.Native.Nat.{ℕ, zero, suc, _+_, _-_, _*_, _≤_, _<_}
 use mathlib.Core.Path.{_≡_, refl, sym, _∙_, ap, ap₂}
 use mathlib.Core.Logic.{inl, inr, _≢_}
-use mathlib.Core.Bool.{Bool, false, _&&_, cond}
+use mathlib.Core.Bool.{Bool, false, _&&_, cond, true≢false}
 use mathlib.Core.List.{List, [], _∷_, _++_}
-use mathlib.Core.Option.{none, some}
 use native.Mathlib.Omega.{arith}
 use lib.ListN.{length, getD, length-append}
-use Rattle.blocks.specs.Method.{planOf, planOutcome}
-use Rattle.blocks.specs.Question.{Asked, allYes, no′, firstNo, FirstNo, IsMethod, stateQuestions, problemQuestions}
-use Rattle.blocks.specs.Question.{asksMethod, asksSize, asksSame, asksOutside, asksShared, asksFloating, asksRoom, asksPlan}
-use Rattle.blocks.specs.Length.{Lengths, asksLengths, asksOverhang, overhangQuestions, lengthQuestions}
-use Rattle.blocks.specs.With.{problemQuestionsWith, planQuestionsWith, planAnswerWith}
-use Rattle.blocks.proofs.QuestionLaws.{other-number}
+use Rattle.blocks.specs.Question.{Asked, allYes, no′, firstNo, FirstNo, IsMethod}
+use Rattle.blocks.specs.Question.{asksMethod, asksSize}
+use Rattle.blocks.specs.Sheet.{Sheet, office}
+use Rattle.blocks.specs.Answer.{planFor, planAnswer}
+use Rattle.blocks.proofs.SheetLaws.{plan-among}
 use Rattle.lists.proofs.ReflectLaws.{Reflects, holds, fails, to-true, ltb-reflects}
 use Rattle.planner.specs.declared.Planned.the-variants.{Refused}
 use Rattle.records.specs.Marks.{marks, markOf, size}
@@ -23,13 +21,13 @@ use Rattle.records.specs.declared.Kind.the-variants.{Hd, Nw, Gl, Ln}
 use Rattle.sheets.specs.declared.Head.the-variants.{Missing, There}
 use Rattle.records.proofs.RoundTrip.{round-trip}
 use Rattle.records.proofs.ThereLaws.{missing-unique}
-use Rattle.sheets.specs.declared.Sheet.{Sheet}
+use Rattle.sheets.specs.declared.Sheet as case
 use Rattle.sheets.specs.declared.Sheet.the-variants.{Headless, Long, Broken, Whole}
 use Rattle.sheets.specs.Sheets.{headAt, lengthCount, nowsAt, goalsAt, lengthsAt, endAt, nows, goals, lengths, sheetAt}
 use Rattle.sheets.specs.Cases.{RecordMissing, IsBroken, IsWhole, Says}
 use Rattle.sheets.proofs.HeadLaws.{head-room}
 use Rattle.sheets.proofs.SheetLaws.{sheet-says}
-use Rattle.responder.specs.Responses.{asksNows, asksGoals, asksLengthRecords, asksTail, lengthsOf, lent, sheetQuestions}
+use Rattle.responder.specs.Responses.{asksNows, asksGoals, asksLengthRecords, asksTail, sheetIn, lent, programQuestions}
 use Rattle.responder.specs.Responses.{refusalBytes, planRecords, reply, sheetResponse, responseTo}
 use Rattle.responder.specs.Wanted.{decidedBy, wantedBy, wanted}
 use Rattle.responder.specs.Answers.{refusedAs}
@@ -43,24 +41,18 @@ use Rattle.responder.proofs.InputBound.{head-stays, whole-stays, nows-s
 -- ---- answers that are told apart
 
 -- A "no" that is answered is the first of the questions.
-first-of : (t : Bool) (n m : ℕ) (bytes : List ℕ) (p : ℕ) → sheetResponse t n m bytes ≡ refusalBytes 12 p → FirstNo (sheetQuestions t n m bytes) 12 p
+first-of : (t : Bool) (n m : ℕ) (bytes : List ℕ) (p : ℕ) → sheetResponse t n m bytes ≡ refusalBytes 12 p → FirstNo (programQuestions t n m bytes) 12 p
 unfolding sheetResponse
-first-of t n m bytes p = by (firstNo (sheetQuestions t n m bytes)) refl
+first-of t n m bytes p = by (firstNo (programQuestions t n m bytes)) refl
   where
-    ls : Lengths
-    ls = lengthsOf t n bytes
+    h : Sheet
+    h = sheetIn t n bytes
 
-    s : List ℕ
-    s = nows bytes 0 n
+    apart : planRecords m h (lent n) ≡ refusalBytes 12 p → ⊥
+    apart = plan-not-refusal (planAnswer (office m) h (lent n) .count) (planAnswer (office m) h (lent n) .misplaced) (planFor (office m) h) 12 p
 
-    g : List ℕ
-    g = goals bytes 0 n
-
-    apart : planRecords ls m s g (lent n) ≡ refusalBytes 12 p → ⊥
-    apart = plan-not-refusal (planAnswerWith ls m s g (lent n) .count) (planAnswerWith ls m s g (lent n) .misplaced) (planOf (planOutcome m s g)) 12 p
-
-    by : (a : Asked) → firstNo (sheetQuestions t n m bytes) ≡ a → reply a (planRecords ls m s g (lent n)) ≡ refusalBytes 12 p
-        → FirstNo (sheetQuestions t n m bytes) 12 p
+    by : (a : Asked) → firstNo (programQuestions t n m bytes) ≡ a → reply a (planRecords m h (lent n)) ≡ refusalBytes 12 p
+        → FirstNo (programQuestions t n m bytes) 12 p
     by allYes e f = absurd (apart f)
     by (no′ k q) e f =
         let same = refusal-same f in
@@ -73,14 +65,8 @@ record NotSo (n k : ℕ) (bytes : List ℕ) (p : ℕ) : Type 0 where
   pub measure : p ≡ 1 + n + n + length (lengths bytes 0 n k) → length (lengths bytes 0 n k) ≡ k
   pub tail : p ≡ 2 * n + k + 1 → length bytes ≡ endAt 0 n k
 
-plan-not-12 : (ls : Lengths) (m : ℕ) (s g space : List ℕ) (p : ℕ) → FirstNo (planQuestionsWith ls m s g space) 12 p → ⊥
-unfolding planQuestionsWith problemQuestionsWith problemQuestions lengthQuestions overhangQuestions stateQuestions asksMethod asksSize asksSame asksOutside
-    asksShared asksFloating asksLengths asksOverhang asksRoom asksPlan
-plan-not-12 none m s g space p f = other-number (planQuestionsWith none m s g space) 12 refl 12 p f refl
-plan-not-12 (some l) m s g space p f = other-number (planQuestionsWith (some l) m s g space) 12 refl 12 p f refl
-
-not-first : (t : Bool) (n m : ℕ) (bytes : List ℕ) {p : ℕ} → NotSo n (lengthCount t n) bytes p → FirstNo (sheetQuestions t n m bytes) 12 p → ⊥
-unfolding sheetQuestions asksMethod asksSize asksNows asksGoals asksLengthRecords asksTail
+not-first : (t : Bool) (n m : ℕ) (bytes : List ℕ) {p : ℕ} → NotSo n (lengthCount t n) bytes p → FirstNo (programQuestions t n m bytes) 12 p → ⊥
+unfolding programQuestions asksMethod asksSize asksNows asksGoals asksLengthRecords asksTail
 not-first t n m bytes w (inl f) = omega (arith, f .0)
 not-first t n m bytes w (inr (i, inl f)) = omega (arith, f .0)
 not-first t n m bytes w (inr (i, inr (l, inl (_, (c, f, e))))) =
@@ -94,7 +80,7 @@ not-first t n m bytes w (inr (i, inr (l, inr (a, inr (b, inl (_, (d, f, e)))))))
     omega (arith, w .measure (omega (arith, e, same)), same, f .within)
 not-first t n m bytes w (inr (i, inr (l, inr (a, inr (b, inr (c, inl (_, (e, f)))))))) = omega (arith, w .tail e, f)
 not-first t n m bytes {p} w (inr (i, inr (l, inr (a, inr (b, inr (c, inr (_, f))))))) =
-    plan-not-12 (lengthsOf t n bytes) m (nows bytes 0 n) (goals bytes 0 n) (lent n) p f
+    true≢false (sym (plan-among (office m) (sheetIn t n bytes) (lent n) 12 p f))
 
 -- ---- what is wanted
 
@@ -266,7 +252,7 @@ needed bytes ends more = by (sheetAt bytes 0) refl (sheet-says bytes 0)
     start l (inl z) = z
     start l (inr (i, e)) = absurd (omega (arith, l, e))
 
-    by : (s : Sheet) → sheetAt bytes 0 ≡ s → Says bytes 0 s → Undecided bytes
+    by : (s : case.Sheet) → sheetAt bytes 0 ≡ s → Says bytes 0 s → Undecided bytes
     by Headless e w = headless bytes w (start (open-head bytes more w) ends)
     by (Long m) e w = absurd (omega (arith, open-behind bytes more (w .head) .1, ap decidedBy e, head-room bytes 0 (w .head)))
     by (Broken m p) e w = let o = open-behind bytes more (w .head) in broken bytes ends w (o .0) (rw (ap decidedBy e) at (o .1))

@@ -8,17 +8,17 @@ use native.Mathlib.Omega.{arith}
 use lib.ListN.{length, length-replicate}
 use Rattle.blocks.specs.State.{State, most}
 use Rattle.blocks.specs.Question.{Question, allYes, firstNo, numbers, IsMethod, asksMethod, asksSize, asksSame, asksOutside, asksShared, asksFloating}
-use Rattle.blocks.specs.Question.{asksPlan, stateQuestions, problemQuestions}
+use Rattle.blocks.specs.Question.{asksPlan, stateQuestions, limitQuestions, listQuestions}
 use Rattle.blocks.specs.Method.{planOutcome}
 use Rattle.blocks.specs.Length.{Lengths, asksLengths, asksOverhang, overhangQuestions, lengthQuestions, Counted}
-use Rattle.blocks.specs.With.{problemQuestionsWith, planQuestionsWith}
+use Rattle.blocks.specs.Sheet.{Sheet, goalState, office, sheetQuestions, planQuestions}
 use Rattle.blocks.proofs.QuestionLaws.{first-no}
 use Rattle.blocks.proofs.DecidedLaws.{method-decided, size-decided, same-decided}
 use Rattle.blocks.proofs.LengthLaws.{count-decided}
 use Rattle.records.specs.declared.Kind.the-variants.{Nw, Gl, Ln}
 use Rattle.records.proofs.ThereLaws.{all-there}
 use Rattle.sheets.specs.Sheets.{lengthCount, nowsAt, goalsAt, lengthsAt, nows, goals, lengths}
-use Rattle.responder.specs.Responses.{asksNows, asksGoals, asksLengthRecords, asksTail, lengthsOf, lent, sheetQuestions}
+use Rattle.responder.specs.Responses.{asksNows, asksGoals, asksLengthRecords, asksTail, sheetIn, lent, programQuestions}
 use Rattle.responder.specs.Order.{fourOn, orderedQuestions, InOrder}
 use Rattle.responder.proofs.BehindLaws.{same-behind, without-yes, without-room}
 use Rattle.responder.proofs.DecidedLaws.{middle, middle-decides}
@@ -31,13 +31,16 @@ without-count qs none s g rs count = refl
 without-count qs (some l) s g rs count = without-yes qs (asksLengths l s ∷ []) (overhangQuestions (some l) s g ++ rs) (count-decided l s, λ _. tt) (count, tt)
 
 -- 1, 2, 3, 16 and 10 with a yes are left out
-four-on : (ls : Lengths) (m : ℕ) (s g : State) (space : List ℕ) → IsMethod m → length s ≤ most → length g ≡ length s → Counted ls s
-    → 4 * length s ≤ length space → firstNo (planQuestionsWith ls m s g space) ≡ firstNo (fourOn m ls s g)
-unfolding problemQuestionsWith problemQuestions asksMethod asksSize asksSame
-four-on ls m s g space method small even count room =
-    let last = asksPlan (planOutcome m s g) ∷ [] in
+four-on : (m : ℕ) (h : Sheet) (space : List ℕ) → IsMethod m → length (h .initial) ≤ most → length (h .goal) ≡ length (h .initial)
+    → Counted (h .lengths) (h .initial) → 4 * length (h .initial) ≤ length space → firstNo (planQuestions (office m) h space) ≡ firstNo (fourOn m h)
+unfolding sheetQuestions limitQuestions listQuestions asksMethod asksSize asksSame
+four-on m h space method small even count room =
+    let s = h .initial in
+    let g = h .goal in
+    let ls = h .lengths in
+    let last = asksPlan (planOutcome m s (goalState h)) ∷ [] in
     let states = stateQuestions 4 5 6 s ++ stateQuestions 7 8 9 g in
-    without-room ls m s g space room
+    without-room m h space room
     ∙ without-yes
     []
     (asksMethod m ∷ asksSize (length s) ∷ asksSame s g ∷ [])
@@ -59,8 +62,8 @@ unfolding asksMethod asksSize asksNows asksGoals asksLengthRecords asksTail stat
 measured-order n m bytes = refl
 
 pub in-order : InOrder
-unfolding sheetQuestions asksMethod asksSize asksNows asksGoals asksLengthRecords asksTail
-in-order t n m bytes = same-behind before (planQuestionsWith (lengthsOf t n bytes) m s g (lent n)) (fourOn m (lengthsOf t n bytes) s g) then-four
+unfolding programQuestions asksMethod asksSize asksNows asksGoals asksLengthRecords asksTail
+in-order t n m bytes = same-behind before (planQuestions (office m) (sheetIn t n bytes) (lent n)) (fourOn m (sheetIn t n bytes)) then-four
   where
     s : State
     s = nows bytes 0 n
@@ -71,15 +74,15 @@ in-order t n m bytes = same-behind before (planQuestionsWith (lengthsOf t n byte
     before : List Question
     before = asksMethod m ∷ middle t n bytes
 
-    counted : (u : Bool) → length s ≡ n → length (lengths bytes 0 n (lengthCount u n)) ≡ lengthCount u n → Counted (lengthsOf u n bytes) s
+    counted : (u : Bool) → length s ≡ n → length (lengths bytes 0 n (lengthCount u n)) ≡ lengthCount u n → Counted (sheetIn u n bytes .lengths) s
     counted true long all = all ∙ sym long
     counted false long all = tt
 
-    then-four : firstNo before ≡ allYes → firstNo (planQuestionsWith (lengthsOf t n bytes) m s g (lent n)) ≡ firstNo (fourOn m (lengthsOf t n bytes) s g)
+    then-four : firstNo before ≡ allYes → firstNo (planQuestions (office m) (sheetIn t n bytes) (lent n)) ≡ firstNo (fourOn m (sheetIn t n bytes))
     then-four e =
         let y = first-no before (method-decided m, λ _. middle-decides t n bytes) allYes .0 e in
         let small : n ≤ most = y .1 .0 in
         let long : length s ≡ n = all-there Nw bytes (nowsAt 0) n .1 (y .1 .1 .0) in
         let even : length g ≡ length s = all-there Gl bytes (goalsAt 0 n) n .1 (y .1 .1 .1 .0) ∙ sym long in
         let count = counted t long (all-there Ln bytes (lengthsAt 0 n) (lengthCount t n) .1 (y .1 .1 .1 .1 .0)) in
-        four-on (lengthsOf t n bytes) m s g (lent n) (y .0) (omega arith) even count (omega (arith, length-replicate {A = ℕ} (4 * n) 0))
+        four-on m (sheetIn t n bytes) (lent n) (y .0) (omega arith) even count (omega (arith, length-replicate {A = ℕ} (4 * n) 0))

@@ -1,24 +1,21 @@
--- Behind HD the program answers as without lengths: no LN record is asked for, and planning asks and answers as it does without them. Assumes nothing.
+-- Behind HD the program answers as without lengths: no LN record is asked for. Assumes nothing.
 use Prim.Native.Nat.{ℕ, _+_, _*_}
 use mathlib.Core.Path.{_≡_, ap, ap₂, _∙_}
 use mathlib.Core.Bool.{false, cond}
 use mathlib.Core.List.{List, [], _∷_, _++_}
-use mathlib.Core.Option.{none}
 use native.Mathlib.Omega.{arith}
 use lib.Dec.{leb}
 use lib.ListN.{length}
-use Rattle.blocks.specs.Question.{Question, no′, firstNo, asksMethod, asksSize, planQuestions}
-use Rattle.blocks.specs.Method.{planOf, planOutcome}
-use Rattle.blocks.specs.Answer.{PlanAnswer}
-use Rattle.blocks.proofs.WithLaws.{plan-none, as-before}
+use Rattle.blocks.specs.Question.{Question, no′, firstNo, asksMethod, asksSize}
+use Rattle.blocks.specs.Sheet.{plain, office, planQuestions}
 use Rattle.records.specs.Marks.{size}
 use Rattle.records.specs.Records.{recordAt, entriesAt}
 use Rattle.records.specs.declared.Kind.the-variants.{Hd, Hl, Nw, Gl}
 use Rattle.records.specs.declared.Found.the-variants.{Record}
 use Rattle.sheets.specs.declared.Head.the-variants.{There}
 use Rattle.sheets.specs.Sheets.{headBy, headAt, endAt, nows, goals}
-use Rattle.responder.specs.Responses.{asksNows, asksGoals, asksLengthRecords, asksTail, lent, sheetQuestions, planBytes, planRecords, reply, sheetResponse, responseBy, responseTo}
-use Rattle.responder.specs.Plain.{plainTail, plainQuestions, plainRecords, AsBefore}
+use Rattle.responder.specs.Responses.{asksNows, asksGoals, asksLengthRecords, asksTail, lent, programQuestions, planRecords, reply, sheetResponse, responseBy, responseTo}
+use Rattle.responder.specs.Plain.{plainTail, plainQuestions, AsBefore}
 use Rattle.responder.proofs.BehindLaws.{same-behind}
 
 head-plain : (n m : ℕ) (bytes : List ℕ) → recordAt Hd bytes 0 ≡ Record n m → headAt bytes 0 ≡ There false n m
@@ -34,20 +31,15 @@ tail-plain n bytes qs =
     ap₂ (λ e p. cond (leb (length bytes) e) (firstNo qs) (no′ 12 p)) end place
 
 -- the question of no LN records gets a yes
-asked-plain : (n m : ℕ) (bytes : List ℕ) → firstNo (sheetQuestions false n m bytes) ≡ firstNo (plainQuestions n m bytes)
-unfolding sheetQuestions asksLengthRecords entriesAt
+asked-plain : (n m : ℕ) (bytes : List ℕ) → firstNo (programQuestions false n m bytes) ≡ firstNo (plainQuestions n m bytes)
+unfolding programQuestions asksLengthRecords entriesAt
 asked-plain n m bytes =
     let front = asksMethod m ∷ asksSize n ∷ asksNows n bytes ∷ asksGoals n bytes ∷ [] in
-    let rest = planQuestions m (nows bytes 0 n) (goals bytes 0 n) (lent n) in
-    ap (λ qs. firstNo (front ++ (asksTail n 0 (length bytes) ∷ qs))) (plan-none m (nows bytes 0 n) (goals bytes 0 n) (lent n))
-    ∙ same-behind front (asksTail n 0 (length bytes) ∷ rest) (plainTail n (length bytes) ∷ rest) (λ _. tail-plain n bytes rest)
-
-records-plain : (n m : ℕ) (bytes : List ℕ)
-    → planRecords none m (nows bytes 0 n) (goals bytes 0 n) (lent n) ≡ plainRecords m (nows bytes 0 n) (goals bytes 0 n) (lent n)
-records-plain n m bytes =
-    ap (λ (a : PlanAnswer). planBytes (a .count) (a .misplaced) (planOf (planOutcome m (nows bytes 0 n) (goals bytes 0 n))))
-    (as-before .plan m (nows bytes 0 n) (goals bytes 0 n) (lent n))
+    let rest = planQuestions (office m) (plain (nows bytes 0 n) (goals bytes 0 n)) (lent n) in
+    same-behind front (asksTail n 0 (length bytes) ∷ rest) (plainTail n (length bytes) ∷ rest) (λ _. tail-plain n bytes rest)
 
 pub program-as-before : AsBefore
 unfolding responseTo sheetResponse
-program-as-before n m bytes e = ap (λ h. responseBy h bytes) (head-plain n m bytes e) ∙ ap₂ reply (asked-plain n m bytes) (records-plain n m bytes)
+program-as-before n m bytes e =
+    ap (λ h. responseBy h bytes) (head-plain n m bytes e)
+    ∙ ap (λ v. reply v (planRecords m (plain (nows bytes 0 n) (goals bytes 0 n)) (lent n))) (asked-plain n m bytes)

@@ -11,18 +11,18 @@ use Rattle.blocks.specs.Tests.{misplacedCount}
 use Rattle.blocks.specs.Move.{Plan}
 use Rattle.blocks.specs.Method.{Outcome, plan, nothingToPutDown, Method, outcome, methodOf, outcomeBy, planOf, planOutcome}
 use Rattle.blocks.specs.Question.{allYes, firstNo}
-use Rattle.blocks.specs.Answer.{flat, moves, planned, written}
-use Rattle.blocks.specs.Length.{Lengths}
-use Rattle.blocks.specs.With.{planQuestionsWith, planAnswerWith, planSpaceWith}
+use Rattle.blocks.specs.Sheet.{Sheet, goalState, Call, planQuestions}
+use Rattle.blocks.specs.Answer.{flat, moves, planned, written, planFor, planAnswer, planSpace}
 use Rattle.lists.specs.Lists.{overwrite}
 use Rattle.lists.proofs.WriteLaws.{overwrite-front}
 use Rattle.blocks.proofs.MeasureLaws.{misplaced-le}
 use Rattle.blocks.proofs.FlatLaws.{pairs-back, length-flat}
-use Rattle.blocks.proofs.WithLaws.{plan-accepts}
+use Rattle.blocks.proofs.GoalStateLaws.{bounded}
+use Rattle.blocks.proofs.SheetLaws.{plan-accepts}
 use Rattle.blocks.proofs.Theorems.{theorems}
-use Rattle.planner.specs.Answers.{PlansWith}
+use Rattle.planner.specs.Answers.{Plans}
 use Rattle.planner.specs.declared.Planned.the-variants.{Made}
-use Rattle.responder.specs.Responses.{planBytes, planRecords}
+use Rattle.responder.specs.Responses.{planBytes}
 use Rattle.responder.specs.Answers.{replyOf, Writable}
 
 -- ---- the counts are small
@@ -40,32 +40,39 @@ short-plan m s g q = by (methodOf m)
         of (plan p) e = theorems .plan-fits b s g q p e
         of nothingToPutDown e = omega arith
 
-pub lifts-le : (ls : Lengths) (m : ℕ) (s g : State) (space : List ℕ) → firstNo (planQuestionsWith ls m s g space) ≡ allYes
-    → length (planOf (planOutcome m s g)) ≤ 2 * most
-lifts-le ls m s g space all = let a = plan-accepts ls m s g space .0 all .1 .accepted in omega (arith, short-plan m s g (a .problem), a .small)
+pub lifts-le : (call : Call) (h : Sheet) (space : List ℕ) → firstNo (planQuestions call h space) ≡ allYes → length (planFor call h) ≤ 2 * most
+lifts-le call h space all =
+    let w = bounded (plan-accepts call h space .0 all .accepted) in
+    omega (arith, short-plan (call .method) (h .initial) (goalState h) (w .problem), w .small)
 
 -- ---- a plan was made
 
-module _ {ls : Lengths} {m : ℕ} {s g : State} {space : List ℕ} {c d : ℕ} {space′ : List ℕ} (v : PlansWith ls m s g space (Made c d) space′) where
-  abbrev lifts : Plan
-  lifts = planOf (planOutcome m s g)
+module _ {call : Call} {h : Sheet} {space : List ℕ} {c d : ℕ} {space′ : List ℕ} (v : Plans call h space (Made c d) space′) where
+  abbrev s : State
+  s = h .initial
 
-  pub made-yes : firstNo (planQuestionsWith ls m s g space) ≡ allYes
+  abbrev g : State
+  g = goalState h
+
+  abbrev lifts : Plan
+  lifts = planFor call h
+
+  pub made-yes : firstNo (planQuestions call h space) ≡ allYes
   made-yes = sym (v .asked)
 
   numbers : record { number = 0; place = 0; count = c; misplaced = d } ≡ planned allYes s g lifts
-  unfolding planAnswerWith
-  numbers = v .answer ∙ ap (λ a. planned a s g lifts) made-yes
+  unfolding planAnswer
+  numbers = v .answer ∙ ap (λ q. planned q s g lifts) made-yes
 
   count : c ≡ length lifts
-  count = ap (λ a. a .count) numbers
+  count = ap (λ o. o .count) numbers
 
   misplaced : d ≡ misplacedCount s g
-  misplaced = ap (λ a. a .misplaced) numbers
+  misplaced = ap (λ o. o .misplaced) numbers
 
   lent-list : space′ ≡ overwrite (flat lifts) space
-  unfolding planSpaceWith
-  lent-list = v .lent ∙ ap (λ a. written a (flat lifts) space) made-yes
+  unfolding planSpace
+  lent-list = v .lent ∙ ap (λ q. written q (flat lifts) space) made-yes
 
   pairs : 2 * c ≡ length (flat lifts)
   pairs = omega (arith, count, length-flat lifts)
@@ -74,18 +81,19 @@ module _ {ls : Lengths} {m : ℕ} {s g : State} {space : List ℕ} {c d : ℕ} {
   front = ap₂ (λ i l. moves (take i l)) pairs lent-list ∙ ap moves (overwrite-front (flat lifts) space) ∙ pairs-back lifts
 
   -- The records are the plan's, in whatever space the questions are all yes.
-  pub made-records : (other : List ℕ) → firstNo (planQuestionsWith ls m s g other) ≡ allYes → replyOf (Made c d) space′ ≡ planRecords ls m s g other
-  unfolding planAnswerWith
+  pub made-records : (other : List ℕ) → firstNo (planQuestions call h other) ≡ allYes
+      → replyOf (Made c d) space′ ≡ planBytes (planAnswer call h other .count) (planAnswer call h other .misplaced) lifts
+  unfolding planAnswer
   made-records other all =
       ap₂ (λ i j. planBytes i j (moves (take (2 * c) space′))) count misplaced
       ∙ ap (planBytes (length lifts) (misplacedCount s g)) front
-      ∙ sym (ap (λ a. planBytes (planned a s g lifts .count) (planned a s g lifts .misplaced) lifts) all)
+      ∙ sym (ap (λ q. planBytes (planned q s g lifts .count) (planned q s g lifts .misplaced) lifts) all)
 
   pub made-writable : Writable (Made c d) space′
   made-writable = record { counts = bounds }
     where
       few : misplacedCount s g ≤ most
-      few = omega (arith, misplaced-le s g, plan-accepts ls m s g space .0 made-yes .1 .accepted .small)
+      few = omega (arith, misplaced-le s g, plan-accepts call h space .0 made-yes .accepted .small)
 
       within : 2 * c ≤ length space′
       within = omega (arith, pairs, ap length lent-list, length-append (flat lifts) (drop (length (flat lifts)) space))
@@ -94,4 +102,4 @@ module _ {ls : Lengths} {m : ℕ} {s g : State} {space : List ℕ} {c d : ℕ} {
       bounds i j e =
           let same : c ≡ i = cc in
           let alike : d ≡ j = cc in
-          (omega (arith, count, lifts-le ls m s g space made-yes), omega (arith, misplaced, few), omega (arith, within))
+          (omega (arith, count, lifts-le call h space made-yes), omega (arith, misplaced, few), omega (arith, within))

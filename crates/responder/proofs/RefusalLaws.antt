@@ -7,16 +7,16 @@ use mathlib.Core.List.{List, [], _∷_, _++_}
 use mathlib.Core.Option.{none, some}
 use native.Mathlib.Omega.{arith}
 use lib.ListN.{length, length-replicate}
-use Rattle.blocks.specs.State.{State}
+use Rattle.blocks.specs.Loop.{memberᵇ}
 use Rattle.blocks.specs.Method.{planOutcome}
-use Rattle.blocks.specs.Question.{allYes, no′, firstNo, FirstNo, asksMethod, asksSize, asksOutside, asksShared, asksFloating, asksPlan}
+use Rattle.blocks.specs.Question.{allYes, no′, firstNo, FirstNo, numbers, asksMethod, asksSize, asksOutside, asksShared, asksFloating, asksPlan}
 use Rattle.blocks.specs.Question.{stateQuestions}
 use Rattle.blocks.specs.Length.{Lengths, asksOverhang, overhangQuestions}
-use Rattle.blocks.specs.With.{planQuestionsWith}
+use Rattle.blocks.specs.Sheet.{Sheet, goalState, office, planQuestions}
 use Rattle.blocks.proofs.QuestionLaws.{Decides, first-no, decides-append, clash, other-number}
 use Rattle.blocks.proofs.DecidedLaws.{method-decided, state-decides, plan-decided}
 use Rattle.blocks.proofs.LengthLaws.{overhangs-decides}
-use Rattle.blocks.proofs.WithLaws.{plan-accepts, never-13}
+use Rattle.blocks.proofs.SheetLaws.{plan-accepts, never-13}
 use Rattle.records.specs.Marks.{marks, markOf}
 use Rattle.records.specs.declared.Kind.the-variants.{Nw, Gl, Ln}
 use Rattle.records.specs.declared.Found.the-variants.{Record}
@@ -26,7 +26,7 @@ use Rattle.sheets.specs.declared.Head as declared
 use Rattle.sheets.specs.declared.Head.the-variants.{Missing, There}
 use Rattle.sheets.specs.Sheets.{headKind, headAt, lengthCount, nowsAt, goalsAt, lengthsAt, nows, goals}
 use Rattle.sheets.proofs.HeadLaws.{head-record, record-head, no-record, head-room}
-use Rattle.responder.specs.Responses.{asksNows, asksGoals, asksLengthRecords, asksTail, recordQuestions, lengthsOf, lent, sheetQuestions}
+use Rattle.responder.specs.Responses.{asksNows, asksGoals, asksLengthRecords, asksTail, recordQuestions, sheetIn, lent, programQuestions}
 use Rattle.responder.specs.Responses.{refusalBytes, planRecords, reply, sheetResponse, responseBy, responseTo}
 use Rattle.responder.specs.Order.{fourOn, orderedQuestions}
 use Rattle.responder.specs.Refusals.{askedBy, asked, Head, NoHead, ProgramRefused, Begun, Complete, Refused12, Refusals}
@@ -60,24 +60,21 @@ asked-is bytes e = ap (λ h. askedBy h bytes) e
 -- ---- the questions behind the head
 
 module _ (t : Bool) (n m : ℕ) (bytes : List ℕ) where
-  abbrev ls : Lengths
-  ls = lengthsOf t n bytes
+  abbrev h : Sheet
+  h = sheetIn t n bytes
 
-  abbrev s : State
-  s = nows bytes 0 n
-
-  abbrev g : State
-  g = goals bytes 0 n
-
-  four-decides : Decides (fourOn m ls s g)
+  four-decides : Decides (fourOn m h)
   four-decides =
-      let last = asksPlan (planOutcome m s g) ∷ [] in
-      let over = decides-append (overhangQuestions ls s g) last (overhangs-decides ls s g) (λ _. (plan-decided (planOutcome m s g), λ _. tt)) in
+      let ls = h .lengths in
+      let s = h .initial in
+      let g = h .goal in
+      let last = asksPlan (planOutcome m s (goalState h)) ∷ [] in
+      let over = decides-append (overhangQuestions ls s g) last (overhangs-decides ls s g) (λ _. (plan-decided (planOutcome m s (goalState h)), λ _. tt)) in
       let goal = decides-append (stateQuestions 7 8 9 g) (overhangQuestions ls s g ++ last) (state-decides 7 8 9 g) (λ _. over) in
       decides-append (stateQuestions 4 5 6 s) (stateQuestions 7 8 9 g ++ (overhangQuestions ls s g ++ last)) (state-decides 4 5 6 s) (λ _. goal)
 
   ordered-decides : Decides (orderedQuestions t n m bytes)
-  ordered-decides = (method-decided m, λ _. decides-append (middle t n bytes) (fourOn m ls s g) (middle-decides t n bytes) (λ _. four-decides))
+  ordered-decides = (method-decided m, λ _. decides-append (middle t n bytes) (fourOn m h) (middle-decides t n bytes) (λ _. four-decides))
 
   ordered-refuses : (k p : ℕ) → (firstNo (orderedQuestions t n m bytes) ≡ no′ k p) ↔ FirstNo (orderedQuestions t n m bytes) k p
   ordered-refuses k p = first-no (orderedQuestions t n m bytes) ordered-decides (no′ k p)
@@ -118,13 +115,13 @@ refused-response bytes k p a = by (headAt bytes 0) refl
     by : (h : declared.Head) → headAt bytes 0 ≡ h → responseBy h bytes ≡ refusalBytes k p
     by Missing e = ap (λ v. reply v []) (sym (asked-is bytes e) ∙ a)
     by (There t n m) e =
-        ap (λ v. reply v (planRecords (lengthsOf t n bytes) m (nows bytes 0 n) (goals bytes 0 n) (lent n))) (in-order t n m bytes ∙ sym (asked-is bytes e) ∙ a)
+        ap (λ v. reply v (planRecords m (sheetIn t n bytes) (lent n))) (in-order t n m bytes ∙ sym (asked-is bytes e) ∙ a)
 
 -- ---- all yes
 
 module _ (bytes : List ℕ) (t : Bool) (n m : ℕ) where
-  complete : headAt bytes 0 ≡ There t n m → firstNo (sheetQuestions t n m bytes) ≡ allYes → Complete bytes t n m
-  unfolding sheetQuestions asksMethod asksSize asksNows asksGoals asksLengthRecords asksTail
+  complete : headAt bytes 0 ≡ There t n m → firstNo (programQuestions t n m bytes) ≡ allYes → Complete bytes t n m
+  unfolding programQuestions asksMethod asksSize asksNows asksGoals asksLengthRecords asksTail
   complete e a =
       let k = lengthCount t n in
       let y = sheet-accepts t n m bytes .0 a in
@@ -137,16 +134,16 @@ module _ (bytes : List ℕ) (t : Bool) (n m : ℕ) where
         goals-read = all-entries Gl bytes (goalsAt 0 n) n goals-yes;
         lengths-read = all-entries Ln bytes (lengthsAt 0 n) k lengths-yes;
         end = omega (arith, y .1 .1 .1 .1 .1 .0, end-room n k bytes (head-room bytes 0 e) nows-yes goals-yes lengths-yes);
-        accepted = plan-accepts (lengthsOf t n bytes) m (nows bytes 0 n) (goals bytes 0 n) (lent n) .0 (plan-yes t n m bytes a) .1;
+        accepted = plan-accepts (office m) (sheetIn t n bytes) (lent n) .0 (plan-yes t n m bytes a) .accepted;
       }
 
-  pub all-yes : Complete bytes t n m → firstNo (sheetQuestions t n m bytes) ≡ allYes
-  unfolding sheetQuestions asksMethod asksSize asksNows asksGoals asksLengthRecords asksTail
+  pub all-yes : Complete bytes t n m → firstNo (programQuestions t n m bytes) ≡ allYes
+  unfolding programQuestions asksMethod asksSize asksNows asksGoals asksLengthRecords asksTail
   all-yes c =
-      let ls = lengthsOf t n bytes in
+      let h = sheetIn t n bytes in
       let room : 4 * length (nows bytes 0 n) ≤ length (lent n) = omega (arith, c .nows-read .long, length-replicate {A = ℕ} (4 * n) 0) in
-      let planned = plan-accepts ls m (nows bytes 0 n) (goals bytes 0 n) (lent n) .1 (c .begun .method, c .accepted, room) in
-      let rest = first-no (planQuestionsWith ls m (nows bytes 0 n) (goals bytes 0 n) (lent n)) (asked-decides t n m bytes) allYes .0 planned in
+      let planned = plan-accepts (office m) h (lent n) .1 (record { method = c .begun .method; takes = tt; accepted = c .accepted; room = room }) in
+      let rest = first-no (planQuestions (office m) h (lent n)) (asked-decides t n m bytes) allYes .0 planned in
       sheet-accepts t n m bytes
       .1 (c .begun .method, (c .begun .small, (c .nows-read .there, (c .goals-read .there, (c .lengths-read .there, (omega (arith, c .end), rest))))))
 
@@ -163,10 +160,13 @@ accepts bytes = (into (headAt bytes 0) refl, out)
 -- ---- question 12 alone, and 13
 
 -- 4 on is not 12
-four-not-12 : (m : ℕ) (ls : Lengths) (s g : State) (p : ℕ) → ¬ FirstNo (fourOn m ls s g) 12 p
+four-not-12 : (m : ℕ) (h : Sheet) (p : ℕ) → ¬ FirstNo (fourOn m h) 12 p
 unfolding stateQuestions asksOutside asksShared asksFloating overhangQuestions asksOverhang asksPlan
-four-not-12 m none s g p f = other-number (fourOn m none s g) 12 refl 12 p f refl
-four-not-12 m (some l) s g p f = other-number (fourOn m (some l) s g) 12 refl 12 p f refl
+four-not-12 m h p f = other-number (fourOn m h) 12 (by (h .lengths)) 12 p f refl
+  where
+    by : (ls : Lengths) → memberᵇ 12 (4 ∷ 5 ∷ 6 ∷ 7 ∷ 8 ∷ 9 ∷ numbers (overhangQuestions ls (h .initial) (h .goal) ++ (asksPlan (planOutcome m (h .initial) (goalState h)) ∷ []))) ≡ false
+    by none = refl
+    by (some l) = refl
 
 twelve : (bytes : List ℕ) (p : ℕ) → (asked bytes ≡ no′ 12 p) ↔ Refused12 bytes p
 unfolding asksMethod asksSize asksNows asksGoals asksLengthRecords asksTail
@@ -181,12 +181,12 @@ twelve bytes p = Iff·trans (refuses bytes 12 p) (into, out)
         begun : Begun bytes t n m
         begun = record { head = h; method = i; small = l }
 
-        by : FirstNo (recordQuestions t n bytes ++ fourOn m (lengthsOf t n bytes) (nows bytes 0 n) (goals bytes 0 n)) 12 p → Refused12 bytes p
+        by : FirstNo (recordQuestions t n bytes ++ fourOn m (sheetIn t n bytes)) 12 p → Refused12 bytes p
         by (inl (e, (j, w, place))) = Refused12.now-missing t n m j begun w place
         by (inr (a, inl (e, (j, w, place)))) = Refused12.goal-missing t n m j begun a w place
         by (inr (a, inr (b, inl (e, (j, w, place))))) = Refused12.length-missing t n m j begun a b w place
         by (inr (a, inr (b, inr (c, inl (e, (place, long)))))) = Refused12.tail t n m begun a b c long place
-        by (inr (a, inr (b, inr (c, inr (_, f))))) = absurd (four-not-12 m (lengthsOf t n bytes) (nows bytes 0 n) (goals bytes 0 n) p f)
+        by (inr (a, inr (b, inr (c, inr (_, f))))) = absurd (four-not-12 m (sheetIn t n bytes) p f)
 
     out : Refused12 bytes p → ProgramRefused bytes 12 p
     out (Refused12.head gone place) = ProgramRefused.head gone refl place
@@ -200,18 +200,18 @@ twelve bytes p = Iff·trans (refuses bytes 12 p) (into, out)
         ProgramRefused.behind t n m (b .head) (inr (b .method, inr (b .small, inr (a, inr (c, inr (d, inl (refl, (place, long))))))))
 
 no-13 : (bytes : List ℕ) (p : ℕ) → ¬ ProgramRefused bytes 13 p
-unfolding sheetQuestions asksMethod asksSize asksNows asksGoals asksLengthRecords asksTail
+unfolding programQuestions asksMethod asksSize asksNows asksGoals asksLengthRecords asksTail
 no-13 bytes p (ProgramRefused.head gone number place) = omega arith
 no-13 bytes p (ProgramRefused.behind t n m h f) = by (sheet-refuses t n m bytes 13 p .0 (in-order t n m bytes ∙ ordered-refuses t n m bytes 13 p .1 f))
   where
-    by : FirstNo (sheetQuestions t n m bytes) 13 p → ⊥
+    by : FirstNo (programQuestions t n m bytes) 13 p → ⊥
     by (inl (e, _)) = omega arith
     by (inr (_, inl (e, _))) = omega arith
     by (inr (_, inr (_, inl (e, _)))) = omega arith
     by (inr (_, inr (_, inr (_, inl (e, _))))) = omega arith
     by (inr (_, inr (_, inr (_, inr (_, inl (e, _)))))) = omega arith
     by (inr (_, inr (_, inr (_, inr (_, inr (_, inl (e, _))))))) = omega arith
-    by (inr (_, inr (_, inr (_, inr (_, inr (_, inr (_, r))))))) = never-13 (lengthsOf t n bytes) m (nows bytes 0 n) (goals bytes 0 n) (lent n) p r
+    by (inr (_, inr (_, inr (_, inr (_, inr (_, inr (_, r))))))) = never-13 (office m) (sheetIn t n bytes) (lent n) p r
 
 -- ---- the theorems
 

@@ -15,12 +15,13 @@ use Rattle.blocks.specs.Tests.{misplacedCount}
 use Rattle.blocks.specs.Method.{Method, Us, Gn1, Gn2, plan, outcome, numberOf, methodOf, outcomeBy, planOf, planOutcome}
 use Rattle.blocks.specs.Question.{Asked, allYes, no′, IsMethod}
 use Rattle.blocks.specs.Answer.{PlanAnswer}
-use Rattle.blocks.specs.Length.{Lengths}
-use Rattle.blocks.specs.WithDemands.{PromiseWith}
+use Rattle.blocks.specs.Sheet.{Sheet, goalState, Arrives, office}
+use Rattle.blocks.specs.Demands.{Promise}
 use Rattle.blocks.proofs.MeasureLaws.{misplaced-le}
 use Rattle.blocks.proofs.QuestionLaws.{clash}
 use Rattle.blocks.proofs.Theorems.{theorems}
-use Rattle.blocks.proofs.WithTheorems.{with-theorems}
+use Rattle.blocks.proofs.GoalStateLaws.{bounded}
+use Rattle.blocks.proofs.SheetTheorems.{sheet-theorems}
 use Rattle.records.specs.Marks.{marks, markOf, size}
 use Rattle.records.specs.Records.{hasRecord, recordAt, recordBytes}
 use Rattle.records.specs.declared.Kind.{Kind}
@@ -28,8 +29,8 @@ use Rattle.records.specs.declared.Kind.the-variants.{Pl, Lf, No}
 use Rattle.records.specs.declared.Found.the-variants.{Record, Missing}
 use Rattle.records.proofs.RoundTrip.{read-between}
 use Rattle.records.proofs.WriteLaws.{length-record}
-use Rattle.sheets.specs.Sheets.{nows, goals}
-use Rattle.responder.specs.Responses.{lengthsOf, lent, refusalBytes, moveBytes, planBytes, planRecords, reply, sheetResponse, responseBy, responseTo}
+use Rattle.sheets.specs.Sheets.{nows}
+use Rattle.responder.specs.Responses.{sheetIn, lent, refusalBytes, moveBytes, planBytes, planRecords, reply, sheetResponse, responseBy, responseTo}
 use Rattle.responder.specs.Refusals.{asked, Complete, ProgramRefused}
 use Rattle.responder.specs.Told.{andLift, liftsAt, TellsPlan, Tells, Told}
 use Rattle.responder.proofs.SizeLaws.{size-lf}
@@ -99,17 +100,17 @@ named (suc (suc (suc zero))) i = (Gn2, refl, refl)
 named (suc (suc (suc (suc m)))) i = absurd (omega (arith, i .high))
 
 module _ (bytes : List ℕ) (t : Bool) (n : ℕ) (by : Method) (same : methodOf (numberOf by) ≡ some by) (w : Complete bytes t n (numberOf by)) where
-  abbrev ls : Lengths
-  ls = lengthsOf t n bytes
+  abbrev h : Sheet
+  h = sheetIn t n bytes
 
   abbrev s : State
   s = nows bytes 0 n
 
   abbrev g : State
-  g = goals bytes 0 n
+  g = goalState h
 
-  abbrev demand : (p : Plan) × (outcome by s g ≡ plan p) × PromiseWith ls by s g p
-  demand = with-theorems .demand ls by s g (w .accepted)
+  abbrev demand : (p : Plan) × (outcome by s g ≡ plan p) × Promise (Arrives h) by s g p
+  demand = sheet-theorems .demand by h (w .accepted)
 
   abbrev p : Plan
   p = demand .0
@@ -120,19 +121,20 @@ module _ (bytes : List ℕ) (t : Bool) (n : ℕ) (by : Method) (same : methodOf 
   room : 4 * length s ≤ length (lent n)
   room = omega (arith, w .nows-read .long, length-replicate {A = ℕ} (4 * n) 0)
 
-  written : planRecords ls (numberOf by) s g (lent n) ≡ answer
+  written : planRecords (numberOf by) h (lent n) ≡ answer
   unfolding planOutcome
   written =
       let lifts : planOf (outcomeBy (methodOf (numberOf by)) s g) ≡ p = ap (λ o. planOf (outcomeBy o s g)) same ∙ ap planOf (demand .1) in
-      let plain = theorems .plan-answers by s g (lent n) (w .accepted .accepted) room p (demand .1) .0 in
-      let answers = with-theorems .same-lists .plan ls (numberOf by) s g (lent n) (w .accepted) .0 ∙ plain in
+      let answers =
+      sheet-theorems .plan-answers (office (numberOf by)) h (lent n) (record { method = w .begun .method; takes = tt; accepted = w .accepted; room = room }) p
+      (ap (λ o. outcomeBy o s g) same ∙ demand .1) .0 in
       ap₂ (λ (a : PlanAnswer) q. planBytes (a .count) (a .misplaced) q) answers lifts
 
   plan-response : responseTo bytes ≡ answer
   unfolding responseTo sheetResponse
   plan-response =
       ap (λ h. responseBy h bytes) (head-found bytes t n (numberOf by) (w .begun .head))
-      ∙ ap (λ a. reply a (planRecords ls (numberOf by) s g (lent n))) (all-yes bytes t n (numberOf by) w)
+      ∙ ap (λ a. reply a (planRecords (numberOf by) h (lent n))) (all-yes bytes t n (numberOf by) w)
       ∙ written
 
   lifts-read : liftsAt answer (size Pl) (length p) ≡ p
@@ -155,10 +157,10 @@ module _ (bytes : List ℕ) (t : Bool) (n : ℕ) (by : Method) (same : methodOf 
         sheet = w;
         lifts = ap length lifts-read;
         end = long;
-        head-count = with-theorems .head-count ls s g (w .accepted);
+        head-count = sheet-theorems .head-count h (w .accepted);
         given = demand .1 ∙ ap plan (sym lifts-read);
-        told = theorems .methods by s g (w .accepted .accepted .problem) (liftsAt answer (size Pl) (length p)) .0 (demand .1 ∙ ap plan (sym lifts-read));
-        promise = subst (PromiseWith ls by s g) (sym lifts-read) (demand .2);
+        told = theorems .methods by s g (bounded (w .accepted) .problem) (liftsAt answer (size Pl) (length p)) .0 (demand .1 ∙ ap plan (sym lifts-read));
+        promise = subst (Promise (Arrives h) by s g) (sym lifts-read) (demand .2);
       }
 
   plan-tells : Tells bytes answer
@@ -169,17 +171,17 @@ module _ (bytes : List ℕ) (t : Bool) (n : ℕ) (by : Method) (same : methodOf 
         planned = (λ _. (length p, misplacedCount s g, read), λ _. (t, n, numberOf by, w));
         promised = promised;
         refused = λ k q. (λ r. absurd (clash (sym yes ∙ refusals .refuses bytes k q .1 r)), λ e. absurd (other k q e));
-        small = plan-bytes (length p) (misplacedCount s g) p s few less (w .accepted .accepted .small) (demand .2 .solves .solves .legal);
+        small = plan-bytes (length p) (misplacedCount s g) p s few less (w .accepted .small) (demand .2 .arrives .solves .legal);
       }
     where
       yes : asked bytes ≡ allYes
       yes = refusals .accepts bytes .1 (t, n, numberOf by, w)
 
       few : length p ≤ 2 * most
-      few = omega (arith, theorems .plan-fits by s g (w .accepted .accepted .problem) p (demand .1), w .accepted .accepted .small)
+      few = omega (arith, theorems .plan-fits by s g (bounded (w .accepted) .problem) p (demand .1), w .accepted .small)
 
       less : misplacedCount s g ≤ most
-      less = omega (arith, misplaced-le s g, w .accepted .accepted .small)
+      less = omega (arith, misplaced-le s g, w .accepted .small)
 
       promised : (c d : ℕ) → recordAt Pl answer 0 ≡ Record c d → TellsPlan bytes answer c d
       promised c d e =

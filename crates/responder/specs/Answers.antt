@@ -13,7 +13,9 @@ use Rattle.blocks.specs.Length.{given}
 use Rattle.lists.specs.Lists.{overwrite, overwriteAt}
 use Rattle.records.specs.Marks.{size}
 use Rattle.records.specs.declared.Kind.the-variants.{Pl, Lf}
-use Rattle.planner.specs.Answers.{PlansWith}
+use Rattle.blocks.specs.Sheet as sheet
+use Rattle.blocks.specs.Sheet.{office}
+use Rattle.planner.specs.Answers.{Plans}
 use Rattle.planner.specs.declared.Planned.{Planned}
 use Rattle.planner.specs.declared.Planned.the-variants.{Refused, Made}
 use Rattle.sheets.specs.declared.Sheet.{Sheet}
@@ -54,10 +56,14 @@ refusedAs m k p = cond (isMethod (methodOf m)) (Refused k p) (Refused 1 0)
 pub record Askable (sheet : Sheet) : Type 0 where
   pub small : (n m : ℕ) (measured : Bool) (e : ℕ) → sheet ≡ Whole n m measured e → n ≤ most
 
+-- The sheet at the front of the lists.
+abbrev pub partsOf : Bool → ℕ → ℕ → List ℕ → List ℕ → List ℕ → sheet.Sheet
+partsOf measured n k initial goal lengths = sheet.measuredBy (given measured (take k lengths)) (take n initial) (take n goal)
+
 -- A whole sheet of an input of some size: a tail, or what planning answers to its entries.
 pub record AsksWhole (n m : ℕ) (measured : Bool) (e size : ℕ) (initial goal lengths space : List ℕ) (r : Planned) (space′ : List ℕ) : Type 0 where
   pub tail : size ≢ e → r ≡ refusedAs m 12 (2 * n + lengthCount measured n + 1)
-  pub plans : size ≡ e → PlansWith (given measured (take (lengthCount measured n) lengths)) m (take n initial) (take n goal) space r space′
+  pub plans : size ≡ e → Plans (office m) (partsOf measured n (lengthCount measured n) initial goal lengths) space r space′
 
 -- What is answered to a sheet, by its case.
 abbrev pub AsksBy : Sheet → ℕ → List ℕ → List ℕ → List ℕ → List ℕ → Planned → List ℕ → Type 0

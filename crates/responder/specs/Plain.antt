@@ -5,16 +5,14 @@ use mathlib.Core.Path.{_≡_}
 use mathlib.Core.List.{List, _∷_}
 use lib.Dec.{leb}
 use lib.ListN.{length}
-use Rattle.blocks.specs.State.{State}
-use Rattle.blocks.specs.Question.{Question, firstNo, asksMethod, asksSize, planQuestions}
-use Rattle.blocks.specs.Method.{planOf, planOutcome}
-use Rattle.blocks.specs.Answer.{planAnswer}
+use Rattle.blocks.specs.Question.{Question, firstNo, asksMethod, asksSize}
+use Rattle.blocks.specs.Sheet.{plain, office, planQuestions}
 use Rattle.records.specs.Marks.{size}
 use Rattle.records.specs.Records.{recordAt}
 use Rattle.records.specs.declared.Kind.the-variants.{Hd, Nw, Gl}
 use Rattle.records.specs.declared.Found.the-variants.{Record}
 use Rattle.sheets.specs.Sheets.{nows, goals}
-use Rattle.responder.specs.Responses.{asksNows, asksGoals, lent, planBytes, reply, responseTo}
+use Rattle.responder.specs.Responses.{asksNows, asksGoals, lent, planRecords, reply, responseTo}
 
 -- "and nothing after the last record?" "or 2 × n + 1 for a tail": behind the head, n NW records and n GL records.
 abbrev pub plainTail : ℕ → ℕ → Question
@@ -31,12 +29,9 @@ plainTail n long =
 abbrev pub plainQuestions : ℕ → ℕ → List ℕ → List Question
 plainQuestions n m bytes =
     asksMethod m ∷ asksSize n ∷ asksNows n bytes ∷ asksGoals n bytes ∷ plainTail n (length bytes)
-    ∷ planQuestions m (nows bytes 0 n) (goals bytes 0 n) (lent n)
-
-abbrev pub plainRecords : ℕ → State → State → List ℕ → List ℕ
-plainRecords m s g space = planBytes (planAnswer m s g space .count) (planAnswer m s g space .misplaced) (planOf (planOutcome m s g))
+    ∷ planQuestions (office m) (plain (nows bytes 0 n) (goals bytes 0 n)) (lent n)
 
 abbrev pub AsBefore : Type 0
 AsBefore =
     (n m : ℕ) (bytes : List ℕ) → recordAt Hd bytes 0 ≡ Record n m
-    → responseTo bytes ≡ reply (firstNo (plainQuestions n m bytes)) (plainRecords m (nows bytes 0 n) (goals bytes 0 n) (lent n))
+    → responseTo bytes ≡ reply (firstNo (plainQuestions n m bytes)) (planRecords m (plain (nows bytes 0 n) (goals bytes 0 n)) (lent n))

@@ -7,14 +7,14 @@ use mathlib.Core.Bool.{Bool, true, false}
 use mathlib.Core.List.{List, [], _∷_}
 use lib.ListN.{length}
 use Rattle.blocks.specs.State.{most}
-use Rattle.blocks.specs.Length.{AcceptedWith}
+use Rattle.blocks.specs.Sheet.{Accepted}
 use Rattle.blocks.specs.Question.{Asked, allYes, no′, firstNo, FirstNo, numbers, IsMethod}
 use Rattle.records.specs.Records.{fieldAt}
 use Rattle.records.specs.There.{There, AllThere, FirstMissing, Entries}
 use Rattle.records.specs.declared.Kind.the-variants.{Nw, Gl, Ln}
 use Rattle.sheets.specs.declared.Head as declared
 use Rattle.sheets.specs.Sheets.{headKind, headAt, lengthCount, nowsAt, goalsAt, lengthsAt, endAt, nows, goals, lengths}
-use Rattle.responder.specs.Responses.{lengthsOf, refusalBytes, responseTo}
+use Rattle.responder.specs.Responses.{sheetIn, refusalBytes, responseTo}
 use Rattle.responder.specs.Order.{orderedQuestions}
 
 -- ---- what the questions come to
@@ -57,7 +57,7 @@ pub record Complete (bytes : List ℕ) (measured : Bool) (n m : ℕ) : Type 0 wh
   pub goals-read : Entries Gl bytes (goalsAt 0 n) n (goals bytes 0 n)
   pub lengths-read : Entries Ln bytes (lengthsAt 0 n) (lengthCount measured n) (lengths bytes 0 n (lengthCount measured n))
   pub end : length bytes ≡ endAt 0 n (lengthCount measured n)
-  pub accepted : AcceptedWith (lengthsOf measured n bytes) (nows bytes 0 n) (goals bytes 0 n)
+  pub accepted : Accepted (sheetIn measured n bytes)
 
 -- ---- question 12 alone
 

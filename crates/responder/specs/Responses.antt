@@ -5,12 +5,11 @@ use mathlib.Core.Bool.{Bool}
 use mathlib.Core.List.{List, [], _∷_, _++_}
 use lib.Dec.{eqb, leb}
 use lib.ListN.{length, replicate}
-use Rattle.blocks.specs.State.{State}
 use Rattle.blocks.specs.Move.{_⟶_, Plan}
 use Rattle.blocks.specs.Question.{Question, Asked, allYes, no′, firstNo, asksMethod, asksSize}
-use Rattle.blocks.specs.Method.{planOf, planOutcome}
-use Rattle.blocks.specs.Length.{Lengths, given}
-use Rattle.blocks.specs.With.{planQuestionsWith, planAnswerWith}
+use Rattle.blocks.specs.Length.{given}
+use Rattle.blocks.specs.Sheet.{Sheet, measuredBy, office, planQuestions}
+use Rattle.blocks.specs.Answer.{planFor, planAnswer}
 use Rattle.records.specs.Records.{entriesAt, recordBytes}
 use Rattle.records.specs.There.{AllThere, FirstMissing}
 use Rattle.records.specs.declared.Kind.{Kind}
@@ -59,18 +58,18 @@ abbrev pub recordQuestions : Bool → ℕ → List ℕ → List Question
 recordQuestions measured n bytes =
     asksNows n bytes ∷ asksGoals n bytes ∷ asksLengthRecords n (lengthCount measured n) bytes ∷ asksTail n (lengthCount measured n) (length bytes) ∷ []
 
--- The lengths of a sheet: those of its LN records, or none.
-abbrev pub lengthsOf : Bool → ℕ → List ℕ → Lengths
-lengthsOf measured n bytes = given measured (lengths bytes 0 n (lengthCount measured n))
+-- The sheet of the records: its lengths are those of the LN records, or none.
+abbrev pub sheetIn : Bool → ℕ → List ℕ → Sheet
+sheetIn measured n bytes = measuredBy (given measured (lengths bytes 0 n (lengthCount measured n))) (nows bytes 0 n) (goals bytes 0 n)
 
 -- A space of 4 × n numbers, which planning needs: by then its questions 1, 2, 3, 16 and 10 have a yes, so it asks 4 on (`InOrder`).
 abbrev pub lent : ℕ → List ℕ
 lent n = replicate (4 * n) 0
 
-unfoldable pub sheetQuestions : Bool → ℕ → ℕ → List ℕ → List Question
-sheetQuestions measured n m bytes =
+unfoldable pub programQuestions : Bool → ℕ → ℕ → List ℕ → List Question
+programQuestions measured n m bytes =
     asksMethod m ∷ asksSize n
-    ∷ (recordQuestions measured n bytes ++ planQuestionsWith (lengthsOf measured n bytes) m (nows bytes 0 n) (goals bytes 0 n) (lent n))
+    ∷ (recordQuestions measured n bytes ++ planQuestions (office m) (sheetIn measured n bytes) (lent n))
 
 -- ---- the output: "It writes PL and the LF records, or one NO."
 
@@ -94,13 +93,13 @@ reply (no′ k p) bytes = refusalBytes k p
 -- ---- the answer
 
 -- The records of a plan: its count and that of the misplaced as planning answers them, and its lifts.
-abbrev pub planRecords : Lengths → ℕ → State → State → List ℕ → List ℕ
-planRecords ls m s g space = planBytes (planAnswerWith ls m s g space .count) (planAnswerWith ls m s g space .misplaced) (planOf (planOutcome m s g))
+abbrev pub planRecords : ℕ → Sheet → List ℕ → List ℕ
+planRecords m h space = planBytes (planAnswer (office m) h space .count) (planAnswer (office m) h space .misplaced) (planFor (office m) h)
 
 -- To the sheet of a head that says n and m: the first "no", or the plan's records.
 unfoldable pub sheetResponse : Bool → ℕ → ℕ → List ℕ → List ℕ
 sheetResponse measured n m bytes =
-    reply (firstNo (sheetQuestions measured n m bytes)) (planRecords (lengthsOf measured n bytes) m (nows bytes 0 n) (goals bytes 0 n) (lent n))
+    reply (firstNo (programQuestions measured n m bytes)) (planRecords m (sheetIn measured n bytes) (lent n))
 
 -- "Put first to the head": where it is not there, 12 with no records before it.
 abbrev pub responseBy : Head → List ℕ → List ℕ

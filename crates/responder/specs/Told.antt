@@ -9,15 +9,16 @@ use lib.ListN.{length}
 use Rattle.blocks.specs.Move.{_⟶_, Plan}
 use Rattle.blocks.specs.Method.{Method, plan, outcome, numberOf}
 use Rattle.blocks.specs.Steps.{By}
-use Rattle.blocks.specs.WithDemands.{HeadCountWith, PromiseWith}
+use Rattle.blocks.specs.Sheet.{goalState, Arrives}
+use Rattle.blocks.specs.Demands.{HeadCount, Promise}
 use Rattle.records.specs.Marks.{size}
 use Rattle.records.specs.Records.{recordAt}
 use Rattle.records.specs.RoundTrip.{Bytes}
 use Rattle.records.specs.declared.Kind.the-variants.{Pl, Lf}
 use Rattle.records.specs.declared.Found.{Found}
 use Rattle.records.specs.declared.Found.the-variants.{Record, Missing}
-use Rattle.sheets.specs.Sheets.{nows, goals}
-use Rattle.responder.specs.Responses.{lengthsOf, refusalBytes, responseTo}
+use Rattle.sheets.specs.Sheets.{nows}
+use Rattle.responder.specs.Responses.{sheetIn, refusalBytes, responseTo}
 use Rattle.responder.specs.Refusals.{Complete, ProgramRefused}
 
 -- ---- lifts read back
@@ -44,10 +45,10 @@ pub record TellsPlan (bytes answer : List ℕ) (c d : ℕ) : Type 0 where
   pub sheet : Complete bytes measured n (numberOf method)
   pub lifts : length (liftsAt answer (size Pl) c) ≡ c
   pub end : length answer ≡ size Pl + c * size Lf
-  pub head-count : HeadCountWith (lengthsOf measured n bytes) (nows bytes 0 n) (goals bytes 0 n) d
-  pub given : outcome method (nows bytes 0 n) (goals bytes 0 n) ≡ plan (liftsAt answer (size Pl) c)
-  pub told : By method (nows bytes 0 n) (goals bytes 0 n) (liftsAt answer (size Pl) c)
-  pub promise : PromiseWith (lengthsOf measured n bytes) method (nows bytes 0 n) (goals bytes 0 n) (liftsAt answer (size Pl) c)
+  pub head-count : HeadCount (Arrives (sheetIn measured n bytes)) (nows bytes 0 n) (goalState (sheetIn measured n bytes)) d
+  pub given : outcome method (nows bytes 0 n) (goalState (sheetIn measured n bytes)) ≡ plan (liftsAt answer (size Pl) c)
+  pub told : By method (nows bytes 0 n) (goalState (sheetIn measured n bytes)) (liftsAt answer (size Pl) c)
+  pub promise : Promise (Arrives (sheetIn measured n bytes)) method (nows bytes 0 n) (goalState (sheetIn measured n bytes)) (liftsAt answer (size Pl) c)
 
 -- Of an answer of any kind.
 pub record Tells (bytes answer : List ℕ) : Type 0 where

@@ -5,6 +5,8 @@ ghost use mathlib.Core.Path.{_≡_};
 ghost use Rattle.sheets.specs.Sheets.{sheetAt};
 ghost use Rattle.responder.specs.Wanted.{decidedBy, wanted};
 ghost use Rattle.responder.specs.Answers.{replyOf, refusedAs, Responds, Askable, Asks, Writable, Roomy, Wrote, MovesFit, PutMoves};
+use lengths::Given;
+use planner::Call;
 use planner::Named;
 use planner::Planned;
 use records::Kind;
@@ -126,11 +128,15 @@ fn ask(
                 let nows: &[u16] = initial;
                 let goals: &[u16] = goal;
                 let measures: &[u16] = lengths;
-                planner::plan_with(
+                let office = Call {
                     method,
+                    panel: false,
+                };
+                planner::plan(
+                    office,
+                    Given { lengths: measured },
                     &nows[..n],
                     &goals[..n],
-                    measured,
                     &measures[..k],
                     space,
                 )

@@ -5,14 +5,12 @@ use mathlib.Core.Bool.{true, false, cond, true≢false}
 use mathlib.Core.List.{List}
 use native.Mathlib.Omega.{arith}
 use lib.ListN.{length}
-use Rattle.rows.specs.Rows.{Yard, rowCount, Fresh}
+use Rattle.rows.specs.Rows.{Yard, rowCount, Fresh, Within}
 use Rattle.blocks.specs.State.{State}
-use Rattle.blocks.specs.Position.{Problem, Accepted}
+use Rattle.blocks.specs.Position.{Problem, Bounded}
 use Rattle.blocks.specs.Tests.{measure, perchedᵇ, waitingᵇ}
 use Rattle.blocks.specs.Method.{plan, iterate}
 use Rattle.blocks.proofs.MeasureLaws.{measure-le, misplaced-le}
-use Rattle.problem.specs.Checked.{Examines}
-use Rattle.problem.specs.declared.Checked.{Checked}
 use Rattle.statuses.specs.Modes.{stepOf, walksᵇ}
 use Rattle.statuses.specs.Kept.{Kept, Begun}
 use Rattle.statuses.specs.declared.Mode.{Mode}
@@ -33,7 +31,7 @@ run-plan {f = f} w h = running-end (record { end = w .ran .end; reached = w .ran
 -- ---- the first run
 
 -- an accepted problem as the check leaves it; no loop has been walked
-pub first-steppable : {m : Mode} {s g t : State} {y y₁ z : Yard} {out : List ℕ} → Accepted s g → Unvisited y → Begun m s g t y y₁ z → 4 * length s ≤ length out
+pub first-steppable : {m : Mode} {s g t : State} {y y₁ z : Yard} {out : List ℕ} → Bounded s g → Unvisited y → Begun m s g t y y₁ z → 4 * length s ≤ length out
     → Steppable m t g y₁ z out 0
 first-steppable p v b room =
     let short = twice (p .problem) in
@@ -45,8 +43,8 @@ first-steppable p v b room =
     })
 
 -- the check of blank rows leaves the others blank
-pub unvisited : {s g : State} {c : Checked} {y y′ : Yard} → Fresh rowCount y → Examines s g c y y′ → Unvisited y′
-unvisited f w = unvisited-within (w .within) (omega arith) (record { none = f .blank 8 (omega arith) .zeros .at 0 })
+pub unvisited : {y y′ : Yard} → Fresh rowCount y → Within 0 4 y y′ → Unvisited y′
+unvisited f w = unvisited-within w (omega arith) (record { none = f .blank 8 (omega arith) .zeros .at 0 })
 
 -- ---- runs that do not walk the loop keep the same beside the state
 

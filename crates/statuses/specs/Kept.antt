@@ -7,7 +7,7 @@ use mathlib.Core.List.{List}
 use lib.ListN.{length}
 use Rattle.rows.specs.Rows.{Yard, Sized, readyOf, looseOf, Within}
 use Rattle.blocks.specs.State.{State, support, put}
-use Rattle.blocks.specs.Position.{Accepted}
+use Rattle.blocks.specs.Position.{Bounded}
 use Rattle.blocks.specs.Stall.{Moves}
 use Rattle.blocks.specs.Tests.{readyᵇ}
 use Rattle.numberset.specs.Members.{member, Valid, Assigned, limit}
@@ -80,7 +80,7 @@ pub record Fitted (m : Mode) (s g : State) (y y′ : Yard) : Type 0 where
 
 -- An accepted problem as the check leaves it, room for the state, and sets to be filled.
 pub record Beginnable (s g : State) (cur : List ℕ) (y z : Yard) : Type 0 where
-  pub problem : Accepted s g
+  pub problem : Bounded s g
   pub state-size : length cur ≡ length s
   pub sized : Sized y
   pub start : AtStart s g y

@@ -1,12 +1,13 @@
 -- The options of an operation: the bits of one number. "Bits of `options` that are not named are not looked at; without the bit the lengths are not looked at."
 -- Assumes nothing.
 use Prim.Native.Nat.{ℕ, _/_, _%_}
-use mathlib.Core.Bool.{Bool, cond}
+use mathlib.Core.Bool.{Bool}
 use mathlib.Core.List.{List}
 use lib.Dec.{eqb}
-use Rattle.blocks.specs.State.{most}
-use Rattle.blocks.specs.Length.{Lengths, given}
-use Rattle.blocks.specs.Panel.{panelMost}
+use Rattle.blocks.specs.State.{State}
+use Rattle.blocks.specs.Sheet.{Sheet, Call}
+use Rattle.lengths.specs.Checks.{sheetOf}
+use Rattle.planner.specs.Answers.{callOf}
 
 -- The bits by their values: lengths are given;
 abbrev pub lengthsBit : ℕ
@@ -20,10 +21,9 @@ panelBit = 2
 abbrev pub optionSet : ℕ → ℕ → Bool
 optionSet options bit = eqb (options / bit % 2) 1
 
--- The lengths of a problem, by the options.
-abbrev pub lengthsOf : ℕ → List ℕ → Lengths
-lengthsOf options l = given (optionSet options lengthsBit) l
+-- The sheet of the lists, and how planning is asked, by the options.
+abbrev pub sheetBy : ℕ → State → State → List ℕ → Sheet
+sheetBy options s g l = sheetOf (record { lengths = optionSet options lengthsBit }) s g l
 
--- The most blocks that planning takes, by the options.
-abbrev pub limitOf : ℕ → ℕ
-limitOf options = cond (optionSet options panelBit) panelMost most
+abbrev pub callBy : ℕ → ℕ → Call
+callBy options m = callOf (record { method = m; panel = optionSet options panelBit })

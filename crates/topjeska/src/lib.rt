@@ -1,21 +1,22 @@
 // What C and Rust link: the operations with answers of plain numbers. include/topjeska.h declares them.
 ghost use mathlib.Core.Path.{_≡_};
 ghost use mathlib.Core.Logic.{_≢_};
+ghost use Rattle.blocks.specs.Sheet.{plain, office, panel};
 ghost use Rattle.blocks.specs.Answer.{checkAnswer};
-ghost use Rattle.blocks.specs.With.{checkAnswerWith};
 ghost use Rattle.problem.specs.Checked.{answerOf as checkedAs};
 ghost use Rattle.planner.specs.Answers.{answerOf as plannedAs};
 ghost use Rattle.deadlocks.specs.Answers.{answerOf as testedAs};
 ghost use Rattle.validator.specs.Replayed.{answerOf as replayedAs};
 ghost use Rattle.training.specs.Answers.{answerOf};
-ghost use Rattle.topjeska.specs.Options.{optionSet, lengthsOf, limitOf};
+ghost use Rattle.topjeska.specs.Options.{lengthsBit, panelBit, optionSet, sheetBy, callBy};
 ghost use Rattle.topjeska.specs.Exports.{asCheck, asPlan, asDeadlock, asReplay, asTraining, ExportsTraining, ExportsDraw};
-ghost use Rattle.topjeska.specs.Exports.{ExportsPlan, ExportsPlanUpTo, ExportsPanel, ExportsDeadlock, ExportsDeadlockWith, ExportsReplay, ExportsReplayWith};
+ghost use Rattle.topjeska.specs.Exports.{ExportsPlan, ExportsDeadlock, ExportsReplay};
 use deadlocks::Tested;
 use generator::Generator;
+use lengths::Given;
+use planner::Call;
 use planner::Planned;
 use problem::Checked;
-use rows::MOST;
 use training::Trained;
 use validator::Replayed;
 
@@ -68,13 +69,10 @@ const LENGTHS: u16 = 1;
 // Planning alone looks at this one.
 const PANEL: u16 = 2;
 
-// document 02, Job 5: the panel "takes at most 600 slabs; the yard office still takes 4,000", which is MOST.
-const PANEL_MOST: usize = 600;
-
 // Questions 2 to 9.
 #[no_mangle]
 pub extern "C" fn topjeska_check(initial: &[u16], goal: &[u16]) -> CheckAnswer
-    ensures { λ r. ⌜ asCheck r ≡ checkAnswer (now (initial .entry)) (now (goal .entry)) ⌝ }
+    ensures { λ r. ⌜ asCheck r ≡ checkAnswer (plain (now (initial .entry)) (now (goal .entry))) ⌝ }
 {
     topjeska_check_with(0, initial, goal, &initial[..0])
 }
@@ -87,10 +85,10 @@ pub extern "C" fn topjeska_check_with(
     goal: &[u16],
     lengths: &[u16],
 ) -> CheckAnswer
-    ensures { λ r. ⌜ asCheck r ≡ checkAnswerWith (lengthsOf options (now (lengths .entry))) (now (initial .entry)) (now (goal .entry)) ⌝ }
+    ensures { λ r. ⌜ asCheck r ≡ checkAnswer (sheetBy options (now (initial .entry)) (now (goal .entry)) (now (lengths .entry))) ⌝ }
 {
-    let measured = has_option(options, LENGTHS);
-    check_numbers(lengths::check(initial, goal, measured, lengths))
+    let given = given_by(options);
+    check_numbers(lengths::check(given, initial, goal, lengths))
 }
 
 // Planning: the pairs are written from the front of the lent space.
@@ -101,7 +99,7 @@ pub extern "C" fn topjeska_plan(
     goal: &[u16],
     out: &mut [u16],
 ) -> PlanAnswer
-    ensures { λ r. ⌜ ExportsPlan method (now (initial .entry)) (now (goal .entry)) (now (out .entry)) r (now (out .exit)) ⌝ }
+    ensures { λ r. ⌜ ExportsPlan (office method) (plain (now (initial .entry)) (now (goal .entry))) (now (out .entry)) r (now (out .exit)) ⌝ }
 {
     topjeska_plan_with(0, method, initial, goal, &initial[..0], out)
 }
@@ -114,7 +112,7 @@ pub extern "C" fn topjeska_plan_panel(
     goal: &[u16],
     out: &mut [u16],
 ) -> PlanAnswer
-    ensures { λ r. ⌜ ExportsPanel method (now (initial .entry)) (now (goal .entry)) (now (out .entry)) r (now (out .exit)) ⌝ }
+    ensures { λ r. ⌜ ExportsPlan (panel method) (plain (now (initial .entry)) (now (goal .entry))) (now (out .entry)) r (now (out .exit)) ⌝ }
 {
     topjeska_plan_with(PANEL, method, initial, goal, &initial[..0], out)
 }
@@ -129,11 +127,11 @@ pub extern "C" fn topjeska_plan_with(
     lengths: &[u16],
     out: &mut [u16],
 ) -> PlanAnswer
-    ensures { λ r. ⌜ ExportsPlanUpTo (limitOf options) (lengthsOf options (now (lengths .entry))) method (now (initial .entry)) (now (goal .entry)) (now (out .entry)) r (now (out .exit)) ⌝ }
+    ensures { λ r. ⌜ ExportsPlan (callBy options method) (sheetBy options (now (initial .entry)) (now (goal .entry)) (now (lengths .entry))) (now (out .entry)) r (now (out .exit)) ⌝ }
 {
-    let measured = has_option(options, LENGTHS);
-    let limit = limit_of(options);
-    plan_numbers(planner::plan_up_to(limit, method, initial, goal, measured, lengths, out))
+    let call = call_by(options, method);
+    let given = given_by(options);
+    plan_numbers(planner::plan(call, given, initial, goal, lengths, out))
 }
 
 // The deadlock test: the rows are written from the front of the lent space; count 0 says that nothing is deadlocked.
@@ -143,7 +141,7 @@ pub extern "C" fn topjeska_deadlock(
     goal: &[u16],
     out: &mut [u16],
 ) -> DeadlockAnswer
-    ensures { λ r. ⌜ ExportsDeadlock (now (initial .entry)) (now (goal .entry)) (now (out .entry)) r (now (out .exit)) ⌝ }
+    ensures { λ r. ⌜ ExportsDeadlock (plain (now (initial .entry)) (now (goal .entry))) (now (out .entry)) r (now (out .exit)) ⌝ }
 {
     topjeska_deadlock_with(0, initial, goal, &initial[..0], out)
 }
@@ -157,16 +155,16 @@ pub extern "C" fn topjeska_deadlock_with(
     lengths: &[u16],
     out: &mut [u16],
 ) -> DeadlockAnswer
-    ensures { λ r. ⌜ ExportsDeadlockWith (lengthsOf options (now (lengths .entry))) (now (initial .entry)) (now (goal .entry)) (now (out .entry)) r (now (out .exit)) ⌝ }
+    ensures { λ r. ⌜ ExportsDeadlock (sheetBy options (now (initial .entry)) (now (goal .entry)) (now (lengths .entry))) (now (out .entry)) r (now (out .exit)) ⌝ }
 {
-    let measured = has_option(options, LENGTHS);
-    deadlock_numbers(deadlocks::deadlock_with(initial, goal, measured, lengths, out))
+    let given = given_by(options);
+    deadlock_numbers(deadlocks::deadlock(given, initial, goal, lengths, out))
 }
 
 // Replay of a list of lifts.
 #[no_mangle]
 pub extern "C" fn topjeska_replay(initial: &[u16], goal: &[u16], lifts: &[u16]) -> ReplayAnswer
-    ensures { λ r. ⌜ ExportsReplay (now (initial .entry)) (now (goal .entry)) (now (lifts .entry)) r ⌝ }
+    ensures { λ r. ⌜ ExportsReplay (plain (now (initial .entry)) (now (goal .entry))) (now (lifts .entry)) r ⌝ }
 {
     topjeska_replay_with(0, initial, goal, &initial[..0], lifts)
 }
@@ -180,10 +178,10 @@ pub extern "C" fn topjeska_replay_with(
     lengths: &[u16],
     lifts: &[u16],
 ) -> ReplayAnswer
-    ensures { λ r. ⌜ ExportsReplayWith (lengthsOf options (now (lengths .entry))) (now (initial .entry)) (now (goal .entry)) (now (lifts .entry)) r ⌝ }
+    ensures { λ r. ⌜ ExportsReplay (sheetBy options (now (initial .entry)) (now (goal .entry)) (now (lengths .entry))) (now (lifts .entry)) r ⌝ }
 {
-    let measured = has_option(options, LENGTHS);
-    replay_numbers(validator::validate_with(initial, goal, measured, lengths, lifts))
+    let given = given_by(options);
+    replay_numbers(validator::validate(given, initial, goal, lengths, lifts))
 }
 
 // Training: the state of a number, written over the first n entries of the lent list.
@@ -246,14 +244,21 @@ fn has_option(options: u16, bit: u16) -> bool
     options / bit % 2 == 1
 }
 
-// The most blocks that planning takes, by the options.
-fn limit_of(options: u16) -> usize
-    ensures { λ r. ⌜ r ≡ limitOf options ⌝ }
+// Which lists are given, and how planning is asked, by the options.
+fn given_by(options: u16) -> Given
+    ensures { λ r. ⌜ r .lengths ≡ optionSet options lengthsBit ⌝ }
 {
-    if has_option(options, PANEL) {
-        PANEL_MOST
-    } else {
-        MOST
+    Given {
+        lengths: has_option(options, LENGTHS),
+    }
+}
+
+fn call_by(options: u16, method: u16) -> Call
+    ensures { λ r. ⌜ (r .method ≡ method) × (r .panel ≡ optionSet options panelBit) ⌝ }
+{
+    Call {
+        method,
+        panel: has_option(options, PANEL),
     }
 }
 

@@ -11,7 +11,8 @@ use Rattle.lists.specs.Lists.{overwrite}
 use Rattle.lists.proofs.ReflectLaws.{decided, reflects-not, eqb-reflects, leb-reflects, ltb-reflects}
 use Rattle.lists.proofs.WriteLaws.{overwrite-front}
 use Rattle.blocks.specs.State.{State, support}
-use Rattle.blocks.specs.Position.{Proper, Accepted}
+use Rattle.blocks.specs.Position.{Proper}
+use Rattle.blocks.specs.Sheet.{plain, Accepted}
 use Rattle.blocks.specs.Question.{Question, Asked, allYes, no′, firstNo, FirstNo, numbers, stateQuestions, asksRoom}
 use Rattle.blocks.specs.Answer.{checked, written}
 use Rattle.blocks.specs.Loop.{memberᵇ}
@@ -188,10 +189,11 @@ draw-writes n seed space z =
 
 -- ---- the record
 
-sheet : (n : ℕ) (s g : State) → n ≤ held → IsState n s → IsState n g → Accepted s g
+sheet : (n : ℕ) (s g : State) → n ≤ held → IsState n s → IsState n g → Accepted (plain s g)
 sheet n s g h v w = record {
   small = omega (arith, v .sized);
   problem = record { initial = state-iff s .0 (v .accepted); goal = state-iff g .0 (w .accepted); same = w .sized ∙ sym (v .sized) };
+  measured = tt;
 }
 
 pub promises : Promises

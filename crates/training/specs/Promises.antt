@@ -5,7 +5,7 @@ use mathlib.Core.Logic.{_≢_, _↔_}
 use mathlib.Core.List.{List, [], _∷_, _++_}
 use lib.ListN.{length, take, drop}
 use Rattle.blocks.specs.State.{State}
-use Rattle.blocks.specs.Position.{Accepted}
+use Rattle.blocks.specs.Sheet.{plain, Accepted}
 use Rattle.blocks.specs.Question.{allYes, no′, firstNo, numbers}
 use Rattle.counts.specs.Ways.{ways, held}
 use Rattle.generator.specs.Shifts.{nextSeed}
@@ -42,4 +42,4 @@ pub record Promises : Type 0 where
   pub draw-writes : (n seed : ℕ) (space : List ℕ) → (drawAnswer n seed space) .number ≡ 0
       → IsState n (take n (drawSpace n seed space)) × (drawSeed n seed space ≢ 0)
   -- two such states are a sheet that is accepted
-  pub sheet : (n : ℕ) (s g : State) → n ≤ held → IsState n s → IsState n g → Accepted s g
+  pub sheet : (n : ℕ) (s g : State) → n ≤ held → IsState n s → IsState n g → Accepted (plain s g)

@@ -11,11 +11,12 @@ use lib.ListN.{length, getD}
 use Rattle.lists.proofs.ReflectLaws.{Reflects, fails, from-true, from-false, to-true, not-not, reflects-not, eqb-reflects, same?}
 use Rattle.blocks.specs.State.{State, Block, support, Clear}
 use Rattle.blocks.specs.Tests.{clearᵇ}
-use Rattle.blocks.specs.Question.{firstNo}
-use Rattle.blocks.specs.Replay.{moveQuestions, BadMove}
+use Rattle.blocks.specs.Question.{no′, firstNo, FirstNo}
+use Rattle.blocks.specs.Replay.{moveQuestions}
 use Rattle.blocks.proofs.StateLaws.{support-at}
 use Rattle.blocks.proofs.ClearLaws.{clear-test, clear-table}
-use Rattle.blocks.proofs.ReplayLaws.{move-yes, move-no}
+use Rattle.blocks.proofs.ReplayLaws.{move-decides, move-yes}
+use Rattle.blocks.proofs.QuestionLaws.{first-no}
 use Rattle.problem.specs.Known.{Loads}
 use Rattle.validator.specs.Replayed.{faultOf}
 
@@ -39,20 +40,20 @@ module _ {s : State} {l : List ℕ} (w : Loads s l) where
 
 module _ (s : State) (a x : ℕ) where
   -- a bad move is the first "no"
-  bad : {v : ℕ} → BadMove s a x (suc v) → faultOf (suc v) ≡ firstNo (moveQuestions s a x)
-  bad {v} b = sym (move-no s a x (suc v) 0 .1 (b, refl))
+  bad : (v : ℕ) → FirstNo (moveQuestions s a x) (suc v) 0 → faultOf (suc v) ≡ firstNo (moveQuestions s a x)
+  bad v b = sym (first-no (moveQuestions s a x) (move-decides s a x) (no′ (suc v) 0) .1 b)
 
   pub no-block : a < 1 → faultOf 1 ≡ firstNo (moveQuestions s a x)
   unfolding moveQuestions
-  no-block h = bad (inl (refl, (refl, λ y. omega (arith, y .0 .low))))
+  no-block h = bad 0 (inl (refl, (refl, λ y. omega (arith, y .0 .low))))
 
   pub above-blocks : length s < a → faultOf 1 ≡ firstNo (moveQuestions s a x)
   unfolding moveQuestions
-  above-blocks h = bad (inl (refl, (refl, λ y. omega (arith, y .0 .high))))
+  above-blocks h = bad 0 (inl (refl, (refl, λ y. omega (arith, y .0 .high))))
 
   pub outside : length s < x → faultOf 1 ≡ firstNo (moveQuestions s a x)
   unfolding moveQuestions
-  outside h = bad (inl (refl, (refl, λ y. omega (arith, y .1))))
+  outside h = bad 0 (inl (refl, (refl, λ y. omega (arith, y .1))))
 
   module _ {l : List ℕ} (w : Loads s l) (low : 1 ≤ a) (high : a ≤ length s) (inside : x ≤ length s) where
     block : Block s a
@@ -60,7 +61,7 @@ module _ (s : State) (a x : ℕ) where
 
     pub covered : getD l a 0 ≢ 0 → faultOf 2 ≡ firstNo (moveQuestions s a x)
     unfolding moveQuestions
-    covered n = bad (inr ((block, inside), inl (refl, (refl, λ y. n (from-true (eqb-reflects (getD l a 0) 0) (to-true (block-clear w a low high) y))))))
+    covered n = bad 1 (inr ((block, inside), inl (refl, (refl, λ y. n (from-true (eqb-reflects (getD l a 0) 0) (to-true (block-clear w a low high) y))))))
 
     module _ (free : getD l a 0 ≡ 0) {u : ℕ} (is : u ≡ getD s (a - 1) 0) where
       clear : Clear s a
@@ -68,7 +69,7 @@ module _ (s : State) (a x : ℕ) where
 
       pub already : x ≡ u → faultOf 3 ≡ firstNo (moveQuestions s a x)
       unfolding moveQuestions
-      already e = bad (inr ((block, inside), inr (clear, inl (refl, (refl, λ n. n (e ∙ is ∙ sym (support-at s a low)))))))
+      already e = bad 2 (inr ((block, inside), inr (clear, inl (refl, (refl, λ n. n (e ∙ is ∙ sym (support-at s a low)))))))
 
       module _ (new : x ≡ u → ⊥) where
         changes : x ≢ support s a
@@ -76,14 +77,14 @@ module _ (s : State) (a x : ℕ) where
 
         pub itself : x ≡ a → faultOf 4 ≡ firstNo (moveQuestions s a x)
         unfolding moveQuestions
-        itself e = bad (inr ((block, inside), inr (clear, inr (changes, inl (refl, (refl, λ y. y .0 e))))))
+        itself e = bad 3 (inr ((block, inside), inr (clear, inr (changes, inl (refl, (refl, λ y. y .0 e))))))
 
         module _ (apart : x ≡ a → ⊥) {t : Bool} (tells : t ≡ (not (eqb x 0) && not (eqb (getD l x 0) 0))) where
           pub occupied : t ≡ true → faultOf 4 ≡ firstNo (moveQuestions s a x)
           unfolding moveQuestions
           occupied e =
               let taken = from-true (target-clear w x inside) (sym tells ∙ e) in
-              bad (inr ((block, inside), inr (clear, inr (changes, inl (refl, (refl, λ y. taken (y .1)))))))
+              bad 3 (inr ((block, inside), inr (clear, inr (changes, inl (refl, (refl, λ y. taken (y .1)))))))
 
           pub legal : t ≡ false → faultOf 0 ≡ firstNo (moveQuestions s a x)
           legal e = sym (move-yes s a x .1 (

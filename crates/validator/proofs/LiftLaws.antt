@@ -10,9 +10,8 @@ use borrow.Author.Tests.{not-true, not-false}
 use lib.ListN.{length}
 use Rattle.blocks.specs.State.{State}
 use Rattle.blocks.specs.Question.{firstNo}
-use Rattle.blocks.specs.Replay.{moveQuestions}
+use Rattle.blocks.specs.Replay.{moveQuestions, fitQuestions, liftQuestions}
 use Rattle.blocks.specs.Length.{Lengths, given, fitsᵇ, Counted}
-use Rattle.blocks.specs.With.{fitQuestions, liftQuestions}
 use Rattle.blocks.proofs.QuestionLaws.{first-no-append, first-no-front}
 use Rattle.blocks.proofs.ReplayLaws.{move-yes}
 use Rattle.validator.specs.Replayed.{faultOf}

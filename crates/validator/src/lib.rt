@@ -1,11 +1,12 @@
 // Replay of a list of moves (document 01, "What is lent and written"): linear in the blocks and the list, memory fixed.
 ghost use mathlib.Core.Path.{_≡_};
 ghost use Rattle.blocks.specs.Question.{firstNo};
-ghost use Rattle.blocks.specs.Replay.{moveQuestions};
-ghost use Rattle.blocks.specs.Length.{given, Counted};
-ghost use Rattle.blocks.specs.With.{liftQuestions};
+ghost use Rattle.blocks.specs.Replay.{moveQuestions, liftQuestions};
+ghost use Rattle.blocks.specs.Length.{Counted};
+ghost use Rattle.lengths.specs.Checks.{lengthsOf, sheetOf};
 ghost use Rattle.problem.specs.Known.{Loads};
-ghost use Rattle.validator.specs.Replayed.{faultOf, Replays, ReplaysWith, Replayable, Follows};
+ghost use Rattle.validator.specs.Replayed.{faultOf, Replays, Followable, Follows};
+use lengths::Given;
 use problem::Checked;
 use rows::CHECKED;
 use rows::LOADS;
@@ -18,25 +19,18 @@ pub enum Replayed {
     Judged { verdict: u16, place: usize },
 }
 
-// Questions 2 to 9 and 11, and then the verdict of the list, for any three lists.
-pub fn validate(initial: &[u16], goal: &[u16], moves: &[u16]) -> Replayed
-    ensures { λ r. ⌜ Replays (now (initial .entry)) (now (goal .entry)) (now (moves .entry)) r ⌝ }
-{
-    validate_with(initial, goal, false, &initial[..0], moves)
-}
-
-// The same with questions 16 to 18 after 9, and verdict 6; where the problem is not measured, the lengths are not looked at.
-pub fn validate_with(
+// The questions of a sheet and 11, and then the verdict of the list, for any lists.
+pub fn validate(
+    given: Given,
     initial: &[u16],
     goal: &[u16],
-    measured: bool,
     lengths: &[u16],
     moves: &[u16],
 ) -> Replayed
-    ensures { λ r. ⌜ ReplaysWith (given measured (now (lengths .entry))) (now (initial .entry)) (now (goal .entry)) (now (moves .entry)) r ⌝ }
+    ensures { λ r. ⌜ Replays (sheetOf given (now (initial .entry)) (now (goal .entry)) (now (lengths .entry))) (now (moves .entry)) r ⌝ }
 {
     let mut rows = [[0u16; ROW]; CHECKED];
-    let checked = lengths::examine(initial, goal, measured, lengths, &mut rows);
+    let checked = lengths::examine(given, initial, goal, lengths, &mut rows);
     if let Checked::Refused { number, place } = checked {
         return Replayed::Refused { number, place };
     }
@@ -46,46 +40,46 @@ pub fn validate_with(
             place: 0,
         };
     }
-    judge(initial, goal, measured, lengths, moves, &mut rows[LOADS])
+    judge(given, initial, goal, lengths, moves, &mut rows[LOADS])
 }
 
 // The verdict of a list of pairs, for a problem already checked and the loads of its initial state, which follow the moves.
 pub fn judge(
+    given: Given,
     initial: &[u16],
     goal: &[u16],
-    measured: bool,
     lengths: &[u16],
     moves: &[u16],
     loads: &mut [u16],
 ) -> Replayed
-    requires { ⌜ Replayable (given measured (now lengths)) (now initial) (now goal) (now moves) (now loads) ⌝ }
-    ensures { λ r. ⌜ Follows (given measured (now (lengths .entry))) (now (initial .entry)) (now (goal .entry)) (now (moves .entry)) r ⌝ }
+    requires { ⌜ Followable (sheetOf given (now initial) (now goal) (now lengths)) (now initial) (now moves) (now loads) ⌝ }
+    ensures { λ r. ⌜ Follows (sheetOf given (now (initial .entry)) (now (goal .entry)) (now (lengths .entry))) (now (moves .entry)) r ⌝ }
 {
     let n = initial.len();
     let mut room = [0u16; MOST];
     let cur = &mut room[..n];
     lists::copy(initial, cur);
-    follow(cur, goal, measured, lengths, moves, loads)
+    follow(given, cur, goal, lengths, moves, loads)
 }
 
 // The same from the current state on, which the moves change.
 fn follow(
+    given: Given,
     cur: &mut [u16],
     goal: &[u16],
-    measured: bool,
     lengths: &[u16],
     moves: &[u16],
     loads: &mut [u16],
 ) -> Replayed
-    requires { ⌜ Replayable (given measured (now lengths)) (now cur) (now goal) (now moves) (now loads) ⌝ }
-    ensures { λ r. ⌜ Follows (given measured (now (lengths .entry))) (now (cur .entry)) (now (goal .entry)) (now (moves .entry)) r ⌝ }
+    requires { ⌜ Followable (sheetOf given (now cur) (now goal) (now lengths)) (now cur) (now moves) (now loads) ⌝ }
+    ensures { λ r. ⌜ Follows (sheetOf given (now (cur .entry)) (now (goal .entry)) (now (lengths .entry))) (now (moves .entry)) r ⌝ }
 {
     let count = moves.len() / 2;
     let mut k = 0;
     while k < count {
         let a = lists::wide(moves[2 * k]);
         let x = lists::wide(moves[2 * k + 1]);
-        let verdict = lift_fault(cur, loads, measured, lengths, a, x);
+        let verdict = lift_fault(given, cur, loads, lengths, a, x);
         if verdict != 0 {
             return Replayed::Judged {
                 verdict,
@@ -109,22 +103,15 @@ fn follow(
 }
 
 // What is wrong with a move of a to x, first by the tests of a move and then by the lengths; 0 where it is legal and fits.
-fn lift_fault(
-    cur: &[u16],
-    loads: &[u16],
-    measured: bool,
-    lengths: &[u16],
-    a: usize,
-    x: usize,
-) -> u16
-    requires { ⌜ Loads (now cur) (now loads) × Counted (given measured (now lengths)) (now cur) ⌝ }
-    ensures { λ r. ⌜ faultOf r ≡ firstNo (liftQuestions (given measured (now (lengths .entry))) (now (cur .entry)) a x) ⌝ }
+fn lift_fault(given: Given, cur: &[u16], loads: &[u16], lengths: &[u16], a: usize, x: usize) -> u16
+    requires { ⌜ Loads (now cur) (now loads) × Counted (lengthsOf given (now lengths)) (now cur) ⌝ }
+    ensures { λ r. ⌜ faultOf r ≡ firstNo (liftQuestions (lengthsOf given (now (lengths .entry))) (now (cur .entry)) a x) ⌝ }
 {
     let bad = fault(cur, loads, a, x);
     if bad != 0 {
         return bad;
     }
-    if !measured {
+    if !given.lengths {
         return 0;
     }
     if lengths::too_long(lengths, a, x) {

@@ -41,17 +41,17 @@ cast-refused c = search (needs, place-fits)
 refused-requires-3 : tie.Need-refused-requires-3
 refused-requires-3 c κs = search needs
 
-slice-aggregate-plan-with : tie.Need-slice-aggregate-plan-with
-slice-aggregate-plan-with c = search (needs, part)
+slice-aggregate-plan : tie.Need-slice-aggregate-plan
+slice-aggregate-plan c = search (needs, part)
 
-slice-aggregate-plan-with-2 : tie.Need-slice-aggregate-plan-with-2
-slice-aggregate-plan-with-2 c = search (needs, part)
+slice-aggregate-plan-2 : tie.Need-slice-aggregate-plan-2
+slice-aggregate-plan-2 c = search (needs, part)
 
-slice-aggregate-plan-with-3 : tie.Need-slice-aggregate-plan-with-3
-slice-aggregate-plan-with-3 c = search (needs, length-part)
+slice-aggregate-plan-3 : tie.Need-slice-aggregate-plan-3
+slice-aggregate-plan-3 c = search (needs, length-part)
 
-plan-with-requires : tie.Need-plan-with-requires
-plan-with-requires c κs = search needs
+plan-requires : tie.Need-plan-requires
+plan-requires c κs = search needs
 
 returns : tie.Need-returns
 returns c = search (needs, headless-way)
@@ -87,10 +87,10 @@ ask-spec =
     add-refused-2
     cast-refused
     refused-requires-3
-    slice-aggregate-plan-with
-    slice-aggregate-plan-with-2
-    slice-aggregate-plan-with-3
-    plan-with-requires
+    slice-aggregate-plan
+    slice-aggregate-plan-2
+    slice-aggregate-plan-3
+    plan-requires
     returns
     returns-2
     returns-3

@@ -1,6 +1,5 @@
 -- `topjeska_check` meets its contract: it has no options. Assumes nothing.
 use borrow.Author.Needs.{needs}
-use Rattle.topjeska.proofs.ExportLaws.{check-plain}
 use Rattle.topjeska.proofs.topjeska_check.Statement.{statement}
 use Rattle.topjeska.proofs.topjeska_check.Tie as tie
 
@@ -11,7 +10,7 @@ topjeska-check-with-requires : tie.Need-topjeska-check-with-requires
 topjeska-check-with-requires c κs = search needs
 
 returns : tie.Need-returns
-returns c = search (needs, check-plain)
+returns c = search needs
 
 pub topjeska-check-spec : {M : Type 1} → statement M
 topjeska-check-spec =

@@ -4,8 +4,8 @@ use Rattle.topjeska.proofs.ExportLaws.{check-exported}
 use Rattle.topjeska.proofs.topjeska_check_with.Statement.{statement}
 use Rattle.topjeska.proofs.topjeska_check_with.Tie as tie
 
-has-option-requires : tie.Need-has-option-requires
-has-option-requires c κs = search needs
+given-by-requires : tie.Need-given-by-requires
+given-by-requires c κs = search needs
 
 check-requires : tie.Need-check-requires
 check-requires c κs = search needs
@@ -18,4 +18,4 @@ returns c = search (needs, check-exported)
 
 pub topjeska-check-with-spec : {M : Type 1} → statement M
 topjeska-check-with-spec =
-    tie.close (tie.spec has-option-requires check-requires check-numbers-requires returns)
+    tie.close (tie.spec given-by-requires check-requires check-numbers-requires returns)

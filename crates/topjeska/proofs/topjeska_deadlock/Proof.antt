@@ -1,6 +1,5 @@
 -- `topjeska_deadlock` meets its contract: it has no options. Assumes nothing.
 use borrow.Author.Needs.{needs}
-use Rattle.topjeska.proofs.ExportLaws.{deadlock-plain}
 use Rattle.topjeska.proofs.topjeska_deadlock.Statement.{statement}
 use Rattle.topjeska.proofs.topjeska_deadlock.Tie as tie
 
@@ -14,7 +13,7 @@ same-length : tie.Need-same-length
 same-length c = search needs
 
 returns : tie.Need-returns
-returns c = search (needs, deadlock-plain)
+returns c = search needs
 
 pub topjeska-deadlock-spec : {M : Type 1} → statement M
 topjeska-deadlock-spec =

@@ -4,11 +4,11 @@ use Rattle.topjeska.proofs.ExportLaws.{deadlock-exported}
 use Rattle.topjeska.proofs.topjeska_deadlock_with.Statement.{statement}
 use Rattle.topjeska.proofs.topjeska_deadlock_with.Tie as tie
 
-has-option-requires : tie.Need-has-option-requires
-has-option-requires c κs = search needs
+given-by-requires : tie.Need-given-by-requires
+given-by-requires c κs = search needs
 
-deadlock-with-requires : tie.Need-deadlock-with-requires
-deadlock-with-requires c κs = search needs
+deadlock-requires : tie.Need-deadlock-requires
+deadlock-requires c κs = search needs
 
 deadlock-numbers-requires : tie.Need-deadlock-numbers-requires
 deadlock-numbers-requires c κs = search needs
@@ -23,8 +23,8 @@ pub topjeska-deadlock-with-spec : {M : Type 1} → statement M
 topjeska-deadlock-with-spec =
     tie.close
     (tie.spec
-    has-option-requires
-    deadlock-with-requires
+    given-by-requires
+    deadlock-requires
     deadlock-numbers-requires
     same-length
     returns)

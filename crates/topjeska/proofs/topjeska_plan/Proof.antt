@@ -1,6 +1,5 @@
 -- `topjeska_plan` meets its contract: it has no options. Assumes nothing.
 use borrow.Author.Needs.{needs}
-use Rattle.topjeska.proofs.ExportLaws.{plan-plain}
 use Rattle.topjeska.proofs.topjeska_plan.Statement.{statement}
 use Rattle.topjeska.proofs.topjeska_plan.Tie as tie
 
@@ -14,7 +13,7 @@ same-length : tie.Need-same-length
 same-length c = search needs
 
 returns : tie.Need-returns
-returns c = search (needs, plan-plain)
+returns c = search needs
 
 pub topjeska-plan-spec : {M : Type 1} → statement M
 topjeska-plan-spec =

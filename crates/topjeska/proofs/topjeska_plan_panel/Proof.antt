@@ -1,6 +1,5 @@
 -- `topjeska_plan_panel` meets its contract: it has the panel's option alone. Assumes nothing.
 use borrow.Author.Needs.{needs}
-use Rattle.topjeska.proofs.ExportLaws.{plan-panel}
 use Rattle.topjeska.proofs.topjeska_plan_panel.Statement.{statement}
 use Rattle.topjeska.proofs.topjeska_plan_panel.Tie as tie
 
@@ -14,7 +13,7 @@ same-length : tie.Need-same-length
 same-length c = search needs
 
 returns : tie.Need-returns
-returns c = search (needs, plan-panel)
+returns c = search needs
 
 pub topjeska-plan-panel-spec : {M : Type 1} → statement M
 topjeska-plan-panel-spec =

@@ -4,14 +4,14 @@ use Rattle.topjeska.proofs.ExportLaws.{plan-exported}
 use Rattle.topjeska.proofs.topjeska_plan_with.Statement.{statement}
 use Rattle.topjeska.proofs.topjeska_plan_with.Tie as tie
 
-has-option-requires : tie.Need-has-option-requires
-has-option-requires c κs = search needs
+call-by-requires : tie.Need-call-by-requires
+call-by-requires c κs = search needs
 
-limit-of-requires : tie.Need-limit-of-requires
-limit-of-requires c κs = search needs
+given-by-requires : tie.Need-given-by-requires
+given-by-requires c κs = search needs
 
-plan-up-to-requires : tie.Need-plan-up-to-requires
-plan-up-to-requires c κs = search needs
+plan-requires : tie.Need-plan-requires
+plan-requires c κs = search needs
 
 plan-numbers-requires : tie.Need-plan-numbers-requires
 plan-numbers-requires c κs = search needs
@@ -25,4 +25,4 @@ returns c = search (needs, plan-exported)
 pub topjeska-plan-with-spec : {M : Type 1} → statement M
 topjeska-plan-with-spec =
     tie.close
-    (tie.spec has-option-requires limit-of-requires plan-up-to-requires plan-numbers-requires same-length returns)
+    (tie.spec call-by-requires given-by-requires plan-requires plan-numbers-requires same-length returns)

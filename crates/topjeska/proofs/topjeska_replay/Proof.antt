@@ -1,6 +1,5 @@
 -- `topjeska_replay` meets its contract: it has no options. Assumes nothing.
 use borrow.Author.Needs.{needs}
-use Rattle.topjeska.proofs.ExportLaws.{replay-plain}
 use Rattle.topjeska.proofs.topjeska_replay.Statement.{statement}
 use Rattle.topjeska.proofs.topjeska_replay.Tie as tie
 
@@ -11,7 +10,7 @@ topjeska-replay-with-requires : tie.Need-topjeska-replay-with-requires
 topjeska-replay-with-requires c κs = search needs
 
 returns : tie.Need-returns
-returns c = search (needs, replay-plain)
+returns c = search needs
 
 pub topjeska-replay-spec : {M : Type 1} → statement M
 topjeska-replay-spec =

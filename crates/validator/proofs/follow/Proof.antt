@@ -3,17 +3,17 @@ use borrow.Author.Needs.{needs}
 use Prim.Native.Nat.{_-_}
 use mathlib.Core.Path.{_≡_}
 use lib.ListN.{length}
-use Rattle.blocks.specs.Length.{given}
+use Rattle.lengths.specs.Checks.{sheetOf}
 use Rattle.validator.proofs.FollowLaws.{Following, begin, pair-within, first-within, bad-way, movable, next, differs-way, arrives-way}
 use Rattle.validator.proofs.follow.Statement.{statement}
 use Rattle.validator.proofs.follow.Tie as tie
 
 abbrev Inv-loop : tie.InvT-loop
-Inv-loop cur₀ goal measured lengths moves loads₀ count k₀ cur loads k =
-    Following (given measured lengths) cur₀ goal moves count k cur loads × (length cur ≡ length cur₀) × (length loads ≡ length loads₀)
+Inv-loop given cur₀ goal lengths moves loads₀ count k₀ cur loads k =
+    Following (sheetOf given cur₀ goal lengths) moves count k cur loads × (length cur ≡ length cur₀) × (length loads ≡ length loads₀)
 
 abbrev μ-loop : tie.MeasureT-loop
-μ-loop cur₀ goal measured lengths moves loads₀ count k₀ cur loads k = count - k
+μ-loop given cur₀ goal lengths moves loads₀ count k₀ cur loads k = count - k
 
 loop-holds : tie.Need-loop-holds Inv-loop μ-loop
 loop-holds c = search (needs, begin)

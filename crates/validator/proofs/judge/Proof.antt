@@ -1,7 +1,7 @@
 -- The initial state is copied, and the list is followed from there. Assumes nothing.
 use borrow.Author.Needs.{needs}
 use lib.Seq.{length-take-le}
-use Rattle.validator.proofs.ValidateLaws.{followable, followed}
+use Rattle.validator.proofs.ValidateLaws.{copied, followed}
 use Rattle.validator.proofs.judge.Statement.{statement}
 use Rattle.validator.proofs.judge.Tie as tie
 
@@ -15,7 +15,7 @@ copy-requires : tie.Need-copy-requires
 copy-requires c κs = search (needs, length-take-le)
 
 follow-requires : tie.Need-follow-requires
-follow-requires c κs = search (needs, followable)
+follow-requires c κs = search (needs, copied)
 
 same-length : tie.Need-same-length
 same-length c = search needs

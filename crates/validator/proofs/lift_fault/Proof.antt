@@ -16,9 +16,9 @@ returns-2 c = search (needs, unmeasured)
 
 too-long-requires : tie.Need-too-long-requires
 too-long-requires c κs =
-    let f = c .before .before in
+    let f = c .before .before .before in
     let s = f .before .before .before .before in
-    lift-within _ _ _ _ (f .fault .ensures) (c .before .if1 .left) (now (s .args .lengths)) (s .args .measured) (c .if2 .left) (s .pre .1)
+    lift-within _ _ _ _ (f .fault .ensures) (c .before .before .if1 .left) (now (s .args .lengths)) (s .args .given .lengths) (c .if2 .left) (s .pre .1)
 
 returns-3 : tie.Need-returns-3
 returns-3 c = search (needs, long)
