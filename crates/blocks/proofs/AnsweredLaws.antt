@@ -1,7 +1,7 @@
 -- What planning and the deadlock test answer where no question is answered no, and the limits of sheets and of the lent space. Assumes nothing.
 use mathlib.Core.Path.{_≡_, refl, sym, ap, ap₂, _∙_, subst}
-use mathlib.Core.Logic.{inl, inr, _≢_, _↔_}
-use mathlib.Core.List.{List, [], _∷_, _++_}
+use mathlib.Core.Logic.{inl, _≢_, _↔_}
+use mathlib.Core.List.{List, _++_}
 use mathlib.Core.Option.{none, some}
 use Prim.Native.Nat.{ℕ, zero, suc, _+_, _*_, _≤_}
 use native.Mathlib.Omega.{arith}
@@ -15,7 +15,7 @@ use Rattle.blocks.specs.Loop.{shownWidth}
 use Rattle.blocks.specs.Method.{Method, Us, Gn1, Gn2, plan, built, deadlockLoop, deadlockRows, methodOf, numberOf, outcomeBy, planOf, planOutcome}
 use Rattle.blocks.specs.Question.{allYes, firstNo, IsMethod, asksSize, asksRoom}
 use Rattle.blocks.specs.Steps.{By, ByTest}
-use Rattle.blocks.specs.Sheet.{Sheet, plain, goalState, Accepted, Call, office, panel, sheetQuestions, planQuestions, deadlockQuestions, Refused, DeadlockRefused}
+use Rattle.blocks.specs.Sheet.{Sheet, goalState, Accepted, Call, office, panel, sheetQuestions, planQuestions, deadlockQuestions, Refused, DeadlockRefused}
 use Rattle.blocks.specs.Answer.{flat, moves, planned, written, planAnswer, planSpace, writtenPlan}
 use Rattle.blocks.specs.Answer.{tested, deadlockAnswer, deadlockSpace}
 use Rattle.blocks.specs.Demands.{NoDeadlock, Shown}
@@ -31,11 +31,6 @@ use Rattle.blocks.proofs.GoalStateLaws.{bounded}
 use Rattle.blocks.proofs.SheetLaws.{deadlock-accepts, deadlock-refusal}
 
 -- ---- what is answered
-
-method-back : (m : Method) → methodOf (numberOf m) ≡ some m
-method-back Us = refl
-method-back Gn1 = refl
-method-back Gn2 = refl
 
 pub is-method : (m : Method) → IsMethod (numberOf m)
 is-method Us = record { low = omega arith; high = omega arith }
@@ -144,7 +139,7 @@ module _ (h : Sheet) (space : List ℕ) (w : Testable h space) where
 -- ---- the limits of sheets and of the lent space
 
 -- an office that is asked by a method, and room
-pub plannable : (m : Method) (h : Sheet) (space : List ℕ) → Accepted h → 4 * length (h .initial) ≤ length space → Plannable (office (numberOf m)) h space
+plannable : (m : Method) (h : Sheet) (space : List ℕ) → Accepted h → 4 * length (h .initial) ≤ length space → Plannable (office (numberOf m)) h space
 plannable m h space w r = record { method = is-method m; takes = tt; accepted = w; room = r }
 
 plan-passes : (c : Call) (h : Sheet) (space : List ℕ) → Plannable c h space → (planAnswer c h space) .number ≡ 0
@@ -164,7 +159,7 @@ deadlock-cramped h space w e = behind-late none h _ 10 0 tt w (inl (refl, (refl,
 pub limits : Limits
 limits =
     record {
-      most-passes = λ s g e p. check-accepts (plain s g) .1 (record { small = omega (arith, e); problem = p; measured = tt });
+      most-passes = λ h e p l. check-accepts h .1 (record { small = omega (arith, e); problem = p; measured = l });
       more-refused = λ h e. check-refuses h 2 0 (long-refused h e);
       room-passes = λ m h space w e. plan-passes (office (numberOf m)) h space (plannable m h space w (omega (arith, e)));
       room-refused = λ m h space w e.
@@ -176,9 +171,9 @@ limits =
 pub panel-limits : PanelLimits
 panel-limits =
     record {
-      most-passes = λ m s g space e p r.
-          plan-passes (panel (numberOf m)) (plain s g) space
-          (record { method = is-method m; takes = omega (arith, e); accepted = record { small = omega (arith, e); problem = p; measured = tt }; room = r });
+      most-passes = λ m h space e p l r.
+          plan-passes (panel (numberOf m)) h space
+          (record { method = is-method m; takes = omega (arith, e); accepted = record { small = omega (arith, e); problem = p; measured = l }; room = r });
       more-refused = λ m h space e. beyond-limit (panel (numberOf m)) h space (is-method m) (omega (arith, e)) (λ l. absurd (omega (arith, e, l)));
       office-most-refused = λ m h space e. beyond-limit (panel (numberOf m)) h space (is-method m) (omega (arith, e)) (λ l. absurd (omega (arith, e, l)));
       too-many-refused = λ m h space e. beyond-most (panel (numberOf m)) h space (is-method m) (omega (arith, e));

@@ -1,6 +1,6 @@
 -- What the operations ask of a sheet and answer: where no question is answered no, what a refusal answers, and which sheets and entries are asked alike.
--- A new list of questions changes the first section alone. Assumes nothing.
-use mathlib.Core.Path.{_≡_, refl, sym, ap, ap₂, _∙_, subst}
+-- Assumes nothing.
+use mathlib.Core.Path.{_≡_, refl, sym, ap, ap₂, _∙_}
 use mathlib.Core.Logic.{_⊎_, inl, inr, _≢_, _↔_, Iff·rfl, Iff·trans, Iff·and}
 use mathlib.Core.Bool.{Bool, true, cond, true≢false}
 use mathlib.Core.List.{List, [], _∷_, _++_, append-nil, append-assoc}
@@ -10,7 +10,7 @@ use native.Mathlib.Omega.{arith}
 use lib.ListN.{length}
 use Rattle.blocks.specs.State.{State, most}
 use Rattle.blocks.specs.Position.{Problem}
-use Rattle.blocks.specs.Move.{Plan, Solves}
+use Rattle.blocks.specs.Move.{Plan}
 use Rattle.blocks.specs.Loop.{memberᵇ, shownWidth}
 use Rattle.blocks.specs.Method.{Method, plan, outcomeBy, methodOf, planOutcome, deadlockLoop, deadlockRows}
 use Rattle.blocks.specs.Question.{Question, Asked, allYes, no′, firstNo, AllYes, FirstNo, numbers, IsMethod, asksMethod, asksSize, asksSame}
@@ -360,6 +360,7 @@ module _ (s g : State) where
         lift = λ a x. refl;
         accepted = (λ w. record { small = w .small; problem = w .problem }, λ w. record { small = w .small; problem = w .problem; measured = tt });
         goal = completed-same s g;
+        legal = λ p. (λ w. w .legal, λ w. record { legal = w; fits = plan-fits p });
         arrives = λ p. (λ w. w .solves, λ w. record { solves = w; fits = plan-fits p });
       }
 

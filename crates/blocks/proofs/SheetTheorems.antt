@@ -54,6 +54,7 @@ sheet-theorems =
       replay-order = sheets.replay-order;
       lift-order = replays.lift-order;
       accepts = sheets.accepts;
+      goal-bounded = λ h. bounded;
       refuses = sheets.refuses;
       plan-accepts = sheets.plan-accepts;
       plan-refuses = sheets.plan-refuses;

@@ -7,7 +7,7 @@ use Rattle.blocks.specs.Loop.{restsOn, lastMisplaced, blocker, top, succ
 use Rattle.blocks.specs.Method.{outcome, planOutcome, built, deadlockLoop, deadlockRows}
 use Rattle.blocks.specs.Method.{iterate, fuel, lowestPerched, lowestReady, lowestOnLoop, clearing, building, solving}
 use Rattle.blocks.specs.Question.{asksMethod, asksSize, asksSame, outsideᵇ, firstOutside, asksOutside, sharedᵇ, firstShared, asksShared, floatingᵇ, firstFloating, asksFloating}
-use Rattle.blocks.specs.Question.{asksRoom, asksEven, asksPlan, stateQuestions, limitQuestions, listQuestions}
+use Rattle.blocks.specs.Question.{asksRoom, asksEven, asksPlan, asksLimit, stateQuestions, limitQuestions, listQuestions}
 use Rattle.blocks.specs.Length.{fitsᵇ, asksLengths, overhangsᵇ, firstOverhang, asksOverhang, overhangQuestions, lengthQuestions}
 use Rattle.blocks.specs.Sheet.{completed, sheetQuestions, planQuestions, deadlockQuestions, replayQuestions}
 use Rattle.blocks.specs.Replay.{moveQuestions, fitQuestions, liftQuestions}
@@ -24,7 +24,7 @@ unfolding completed lowest count load clearᵇ groundedᵇ agreesᵇ firstRight 
     clearing building solving outcome built
     deadlockLoop deadlockRows asksMethod asksSize asksSame outsideᵇ firstOutside asksOutside sharedᵇ firstShared asksShared floatingᵇ firstFloating
     asksFloating asksRoom asksPlan stateQuestions checkAnswer planOutcome planQuestions planAnswer planSpace deadlockQuestions
-    deadlockAnswer deadlockSpace asksEven replayQuestions moveQuestions firstDifference replayFrom replayAnswer listQuestions limitQuestions sheetQuestions
+    deadlockAnswer deadlockSpace asksEven replayQuestions moveQuestions firstDifference replayFrom replayAnswer listQuestions asksLimit limitQuestions sheetQuestions
     fitsᵇ asksLengths overhangsᵇ firstOverhang asksOverhang overhangQuestions lengthQuestions fitQuestions liftQuestions
 sheets-hold = (
   (refl, refl, refl) & (refl, refl, refl) & (refl, refl, refl) & (refl, refl, refl) & (refl, refl, refl) & (refl, refl, refl) &
@@ -40,8 +40,8 @@ sheets-hold = (
       (refl, refl) & (refl, refl) & (refl, refl) & tt,
   refl & refl & refl & refl & refl & refl & refl & refl & refl & refl & refl & refl & tt,
   refl & refl & refl & refl & refl & refl & refl & refl & refl & refl & refl & refl & (refl, refl) & (refl, refl) & (refl, refl) & (refl, refl) &
-      (refl, refl) & (refl, refl) & (refl, refl) & refl & refl & tt,
-  refl & refl & refl & refl & refl & refl & refl & refl & refl & refl & refl & refl & refl & refl & refl & refl & refl & refl & refl & refl &
-      (refl, refl, refl) & (refl, refl, refl) & (refl, refl, refl) & refl & refl & refl & refl & refl & refl & (refl, refl) & (refl, refl) &
+      (refl, refl) & (refl, refl) & (refl, refl) & (refl, refl) & (refl, refl) & (refl, refl) & refl & refl & tt,
+  refl & refl & refl & refl & refl & refl & refl & refl & refl & refl & refl & refl & refl & refl & refl & refl & refl & refl & refl & refl & refl & refl &
+      (refl, refl, refl) & (refl, refl, refl) & (refl, refl, refl) & refl & refl & refl & refl & refl & refl & (refl, refl) & (refl, refl) & (refl, refl) &
       (refl, refl) & (refl, refl) & (refl, refl) & (refl, refl) & (refl, refl) & refl & refl & tt,
 )

@@ -1,4 +1,4 @@
--- Slab lengths (document 02, Job 3): what fits, and the questions 16 to 18. Moves and plans stay what they are; the rule of lengths is asked beside them.
+-- Slab lengths (document 02, Job 3): what fits, and the questions 16 to 18. Moves and plans know nothing of lengths: the rule is asked beside them.
 -- Assumes nothing.
 use Prim.Native.Nat.{ℕ, _≤_}
 use mathlib.Core.Path.{_≡_}

@@ -146,7 +146,7 @@ abbrev pub isPlan : Outcome → Bool
 isPlan (plan p) = true
 isPlan nothingToPutDown = false
 
--- 13. "Planning: was there a slab to put down when no constructive lift existed?" Always, by `never-13` of Demands.
+-- 13. "Planning: was there a slab to put down when no constructive lift existed?" Always, by `never-13` of SheetDemands.
 unfoldable pub asksPlan : Outcome → Question
 asksPlan o = asks 13 ((p : Plan) × (o ≡ plan p)) (isPlan o)
 

@@ -9,13 +9,13 @@ use mathlib.Core.Option.{Option, none, some}
 use lib.ListN.{length, take, drop}
 use Rattle.blocks.specs.State.{State, most}
 use Rattle.blocks.specs.Position.{Bounded, Problem}
-use Rattle.blocks.specs.Move.{Plan, Legal, Constructive, Solves}
+use Rattle.blocks.specs.Move.{Plan, Legal, LegalPlan, Constructive, Solves}
 use Rattle.blocks.specs.Tests.{misplacedCount, measure}
 use Rattle.blocks.specs.Loop.{shownWidth}
 use Rattle.blocks.specs.Steps.{By, ByTest}
 use Rattle.blocks.specs.Method.{Method, plan, outcome, methodOf, numberOf, planOutcome, deadlockLoop, deadlockRows}
 use Rattle.blocks.specs.Question.{allYes, no′, firstNo, numbers, IsMethod, asksMethod, asksRoom, asksEven, asksPlan, problemQuestions}
-use Rattle.blocks.specs.Length.{Lengths, Fits, fitsᵇ}
+use Rattle.blocks.specs.Length.{Lengths, Fits, fitsᵇ, LegalUnder, MeasuredIf}
 use Rattle.blocks.specs.Sheet.{Sheet, plain, goalState, Arrives, Accepted, Call, office, panel, panelMost, Takes}
 use Rattle.blocks.specs.Sheet.{sheetQuestions, planQuestions, deadlockQuestions, replayQuestions, Refused, PlanRefused, DeadlockRefused, ReplayRefused}
 use Rattle.blocks.specs.Replay.{moveQuestions, liftQuestions, Replayed}
@@ -53,7 +53,8 @@ pub record Replayable (h : Sheet) (lifts : List ℕ) : Type 0 where
 -- ---- what options leave as it is
 
 -- Document 02, Job 3: "Sheets without lengths are answered as before": document 01's sheet, by the office's entry, is asked document 01's questions, is accepted
--- where they all get a yes, is gone for as it is written, and a plan arrives for it where it is legal and ends in the goal list.
+-- where they all get a yes, and its goal state is the goal list; so planning and the deadlock test answer as before. For replay, a plan is legal, and arrives,
+-- where it is legal, and ends in the goal list.
 pub record AsBefore (s g : State) : Type 1 where
   pub check : sheetQuestions none (plain s g) ≡ problemQuestions s g
   pub plan : (m : ℕ) (space : List ℕ) → planQuestions (office m) (plain s g) space
@@ -63,6 +64,7 @@ pub record AsBefore (s g : State) : Type 1 where
   pub lift : (a x : ℕ) → liftQuestions none s a x ≡ moveQuestions s a x
   pub accepted : Accepted (plain s g) ↔ Bounded s g
   pub goal : goalState (plain s g) ≡ g
+  pub legal : (p : Plan) → LegalUnder none s p ↔ LegalPlan s p
   pub arrives : (p : Plan) → Arrives (plain s g) p ↔ Solves s g p
 
 -- With lengths that are accepted, the same numbers and the same lists as without: for every entry, method and space.
@@ -104,6 +106,8 @@ pub record SheetTheorems : Type 1 where
   pub lift-order : (ls : Lengths) (s : State) (a x : ℕ) → numbers (liftQuestions ls s a x) ≡ 1 ∷ 2 ∷ 3 ∷ 4 ∷ when ls (6 ∷ [])
   -- all is answered yes exactly where it should be, and the first "no" is what the sentences say
   pub accepts : (h : Sheet) → (firstNo (sheetQuestions none h) ≡ allYes) ↔ Accepted h
+  -- and then the methods go from a state to a state of the same blocks
+  pub goal-bounded : (h : Sheet) → Accepted h → Bounded (h .initial) (goalState h)
   pub refuses : (h : Sheet) (k p : ℕ) → (firstNo (sheetQuestions none h) ≡ no′ k p) ↔ Refused h k p
   pub plan-accepts : (c : Call) (h : Sheet) (space : List ℕ) → (firstNo (planQuestions c h space) ≡ allYes) ↔ Plannable c h space
   pub plan-refuses : (c : Call) (h : Sheet) (space : List ℕ) (k p : ℕ) → (firstNo (planQuestions c h space) ≡ no′ k p) ↔ PlanRefused c h space k p
@@ -179,8 +183,8 @@ pub record SheetTheorems : Type 1 where
 
 -- The panel's limits: every good sheet of 600 slabs is planned; every list of 601 and of 4,000 is refused by 19, of 4,001 by 2.
 pub record PanelLimits : Type 0 where
-  pub most-passes : (m : Method) (s g : State) (space : List ℕ) → length s ≡ 600 → Problem s g → 4 * length s ≤ length space
-      → (planAnswer (panel (numberOf m)) (plain s g) space) .number ≡ 0
+  pub most-passes : (m : Method) (h : Sheet) (space : List ℕ) → length (h .initial) ≡ 600 → Problem (h .initial) (h .goal)
+      → MeasuredIf (h .lengths) (h .initial) (h .goal) → 4 * length (h .initial) ≤ length space → (planAnswer (panel (numberOf m)) h space) .number ≡ 0
   pub more-refused : (m : Method) (h : Sheet) (space : List ℕ) → length (h .initial) ≡ 601 → RefusedBy 19 (panel (numberOf m)) h space
   pub office-most-refused : (m : Method) (h : Sheet) (space : List ℕ) → length (h .initial) ≡ 4000 → RefusedBy 19 (panel (numberOf m)) h space
   pub too-many-refused : (m : Method) (h : Sheet) (space : List ℕ) → length (h .initial) ≡ 4001 → RefusedBy 2 (panel (numberOf m)) h space

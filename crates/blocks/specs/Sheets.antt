@@ -2,6 +2,7 @@
 -- lifts, verdicts and refusals. proofs/Starred proves them by computation alone, and proofs/FewestLaws what S2 and S6 need by the theorems. Assumes nothing.
 use Prim.Native.Nat.{ℕ, _+_, _*_, _-_}
 use mathlib.Core.Path.{_≡_}
+use mathlib.Core.Bool.{true, false}
 use mathlib.Core.List.{List, [], _∷_, _++_}
 use mathlib.Core.Option.{some}
 use lib.ListN.{length, replicate}
@@ -10,8 +11,9 @@ use Rattle.blocks.specs.Position.{Problem}
 use Rattle.blocks.specs.Tests.{measure}
 use Rattle.blocks.specs.Loop.{shownWidth}
 use Rattle.blocks.specs.Method.{Method, numberOf}
+use Rattle.blocks.specs.Length.{given, MeasuredIf}
 use Rattle.blocks.specs.Answer.{checkAnswer, planAnswer, planSpace, deadlockAnswer, deadlockSpace, replayAnswer}
-use Rattle.blocks.specs.Sheet.{Sheet, measuredBy, plain, goalState, Arrives, Accepted, office}
+use Rattle.blocks.specs.Sheet.{Sheet, measuredBy, plain, goalState, Arrives, Accepted, Call, office, panel}
 use Rattle.blocks.specs.Demands.{Fewest}
 
 -- One claim of a table. A method goes by its number, and lists of lifts are written as the operations write them: slab, destination.
@@ -25,6 +27,7 @@ pub data Claim : Type 0 where
   replays : Sheet → List ℕ → ℕ → ℕ → Claim  -- the list has this verdict and place
   checks : Sheet → ℕ → ℕ → Claim  -- a check answers this number and place
   refusesPlan : Sheet → ℕ → ℕ → ℕ → ℕ → Claim  -- by the method, with so many numbers lent: number, place
+  refusesPanel : Sheet → ℕ → ℕ → ℕ → ℕ → Claim  -- the same by the panel's entry
   refusesDeadlock : Sheet → ℕ → ℕ → ℕ → Claim  -- with so many numbers lent: number, place
   refusesReplay : Sheet → List ℕ → ℕ → ℕ → Claim  -- of the list: number, no verdict, place
 
@@ -50,6 +53,10 @@ lifts-lent h = lent (4 * length (h .initial))
 abbrev pub rows-lent : Sheet → List ℕ
 rows-lent h = lent (shownWidth * length (h .initial))
 
+-- Planning refuses: number, place, counts 0, and the space as it was.
+abbrev pub Refuses : Call → Sheet → ℕ → ℕ → ℕ → Type 0
+Refuses c h n k p = (planAnswer c h (lent n) ≡ record { number = k; place = p; count = 0; misplaced = 0 }) × (planSpace c h (lent n) ≡ lent n)
+
 abbrev pub Holds : Claim → Type 0
 Holds (gives h m l) =
     (planSpace (office m) h (lifts-lent h) ≡ onTop l (4 * length (h .initial)))
@@ -65,8 +72,8 @@ Holds (needs h k) = Fewest (Arrives h) k
 Holds (allDown h k) = measure (h .initial) (goalState h) ≡ k
 Holds (replays h l v p) = replayAnswer h l ≡ record { number = 0; verdict = v; place = p }
 Holds (checks h k p) = checkAnswer h ≡ record { number = k; place = p }
-Holds (refusesPlan h m n k p) =
-    (planAnswer (office m) h (lent n) ≡ record { number = k; place = p; count = 0; misplaced = 0 }) × (planSpace (office m) h (lent n) ≡ lent n)
+Holds (refusesPlan h m n k p) = Refuses (office m) h n k p
+Holds (refusesPanel h m n k p) = Refuses (panel m) h n k p
 Holds (refusesDeadlock h n k p) = (deadlockAnswer h (lent n) ≡ record { number = k; place = p; count = 0 }) × (deadlockSpace h (lent n) ≡ lent n)
 Holds (refusesReplay h l k p) = replayAnswer h l ≡ record { number = k; verdict = 65535; place = p }
 
@@ -268,6 +275,10 @@ refusals =
     refusesPlan S2 2 7 10 0 ∷
     refusesDeadlock S2 5 10 0 ∷
     refusesDeadlock S2 4 10 0 ∷
+    -- 19, by the panel's entry: after 1, before 3, and not asked of few slabs
+    refusesPanel (grounds (replicate 601 0)) 4 0 1 0 ∷
+    refusesPanel (plain (replicate 601 9) []) 2 0 19 0 ∷
+    refusesPanel S2 2 7 10 0 ∷
     -- 11: an odd number of entries
     refusesReplay S2 (1 ∷ []) 11 0 ∷
     refusesReplay S2 (1 ∷ 0 ∷ 2 ∷ []) 11 0 ∷
@@ -282,6 +293,9 @@ measured =
     -- no slabs have no lengths, which is a list of lengths
     checks (with [] [] []) 0 0 ∷
     checks (with (5 ∷ []) [] []) 16 0 ∷
+    -- a list that is given is the lengths, be it empty; one that is not given is not looked at
+    checks (measuredBy (given true []) (2 ∷ 0 ∷ []) (0 ∷ 1 ∷ [])) 16 0 ∷
+    checks (measuredBy (given false (300 ∷ 200 ∷ [])) (2 ∷ 0 ∷ []) (0 ∷ 1 ∷ [])) 0 0 ∷
     -- 16: not n lengths, after 9 and before 17
     checks (with (200 ∷ []) (2 ∷ 0 ∷ []) (0 ∷ 1 ∷ [])) 16 0 ∷
     checks (with (300 ∷ 200 ∷ 100 ∷ []) (2 ∷ 0 ∷ []) (0 ∷ 1 ∷ [])) 16 0 ∷
@@ -316,6 +330,7 @@ measured =
     replays (with (200 ∷ 200 ∷ []) (2 ∷ 0 ∷ []) (0 ∷ 1 ∷ [])) (1 ∷ 0 ∷ []) 5 2 ∷
     -- 1 before, 10 and 11 behind 16 to 18
     refusesPlan (with (300 ∷ 200 ∷ []) (2 ∷ 0 ∷ []) (0 ∷ 1 ∷ [])) 4 7 1 0 ∷
+    refusesPlan (with (200 ∷ []) (2 ∷ 0 ∷ []) (0 ∷ 1 ∷ [])) 2 8 16 0 ∷
     refusesPlan (with (300 ∷ 200 ∷ []) (2 ∷ 0 ∷ []) (0 ∷ 1 ∷ [])) 2 7 17 1 ∷
     refusesPlan (with (200 ∷ 300 ∷ []) (2 ∷ 0 ∷ []) (0 ∷ 1 ∷ [])) 2 7 18 2 ∷
     refusesPlan (with (200 ∷ 200 ∷ []) (2 ∷ 0 ∷ []) (0 ∷ 1 ∷ [])) 2 7 10 0 ∷
@@ -329,7 +344,8 @@ measured =
 -- The limits, over all lists of a length.
 pub record Limits : Type 0 where
   -- document 01: "4,000 entries pass question 2, 4,001 do not."
-  pub most-passes : (s g : State) → length s ≡ 4000 → Problem s g → checkAnswer (plain s g) ≡ record { number = 0; place = 0 }
+  pub most-passes : (h : Sheet) → length (h .initial) ≡ 4000 → Problem (h .initial) (h .goal) → MeasuredIf (h .lengths) (h .initial) (h .goal)
+      → checkAnswer h ≡ record { number = 0; place = 0 }
   pub more-refused : (h : Sheet) → length (h .initial) ≡ 4001 → checkAnswer h ≡ record { number = 2; place = 0 }
   -- "Space of 4 × n passes, 4 × n − 1 does not." Likewise 3 × n for the deadlock test (document 02, Job 6).
   pub room-passes : (m : Method) (h : Sheet) (space : List ℕ) → Accepted h → length space ≡ 4 * length (h .initial)

@@ -32,7 +32,7 @@ use Rattle.problem.specs.declared.Checked as case
 use Rattle.lengths.specs.Checks.{Examines}
 use Rattle.lengths.proofs.ExamineLaws.{accepted, refused-by}
 use Rattle.runs.proofs.LentLaws.{unvisited}
-use Rattle.planner.specs.Answers.{answerOf, askedOf, asMethod, namedAs, callOf, beyondᵇ, Plans, Solvable, Ran, Solved}
+use Rattle.planner.specs.Answers.{answerOf, asMethod, namedAs, callOf, beyondᵇ, Plans, Solvable, Ran, Solved}
 use Rattle.planner.specs.declared.Call as calls
 use Rattle.planner.specs.declared.Method as declared
 use Rattle.planner.specs.declared.Named.{Named}

@@ -1,4 +1,4 @@
--- Document 01's whole example, and eight more, by computation. Assumes nothing.
+-- Document 01's whole example, and eleven more, by computation. Assumes nothing.
 use mathlib.Core.Path.{refl}
 use Rattle.lists.specs.Search.{lowest, count}
 use Rattle.blocks.specs.Tests.{load, clearᵇ, groundedᵇ, agreesᵇ, position, inPositionᵇ, misplacedᵇ, waitingᵇ, readyᵇ, perchedᵇ, misplacedCount}
@@ -31,4 +31,7 @@ examples =
       overhangs-now = refl;
       overhangs-goal = refl;
       behind-lengths = refl;
+      beyond-panel = refl;
+      most-slabs = refl;
+      too-many = refl;
     }

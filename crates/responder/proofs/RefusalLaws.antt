@@ -1,5 +1,5 @@
 -- What the program asks: the theorems of `specs/Refusals.antt`. Assumes nothing.
-use Prim.Native.Nat.{ℕ, _+_, _*_, _≤_}
+use Prim.Native.Nat.{ℕ, _*_, _≤_}
 use mathlib.Core.Path.{_≡_, refl, sym, _∙_, ap, ap₂}
 use mathlib.Core.Logic.{inl, inr, _↔_, Iff·trans}
 use mathlib.Core.Bool.{Bool, true, false}
@@ -24,7 +24,7 @@ use Rattle.records.proofs.ReadLaws.{found-first, found-second}
 use Rattle.records.proofs.ThereLaws.{found-there, there-found, missing-there, all-entries}
 use Rattle.sheets.specs.declared.Head as declared
 use Rattle.sheets.specs.declared.Head.the-variants.{Missing, There}
-use Rattle.sheets.specs.Sheets.{headKind, headAt, lengthCount, nowsAt, goalsAt, lengthsAt, nows, goals}
+use Rattle.sheets.specs.Sheets.{headKind, headAt, lengthCount, nowsAt, goalsAt, lengthsAt, nows}
 use Rattle.sheets.proofs.HeadLaws.{head-record, record-head, no-record, head-room}
 use Rattle.responder.specs.Responses.{asksNows, asksGoals, asksLengthRecords, asksTail, recordQuestions, sheetIn, lent, programQuestions}
 use Rattle.responder.specs.Responses.{refusalBytes, planRecords, reply, sheetResponse, responseBy, responseTo}

@@ -1,5 +1,5 @@
--- Inputs with their answers by the definition: document 01's whole example, alone and with a tail, three in which the fields of a record differ, and four
--- with lengths (document 02, Job 3). Statements alone; `proofs/Example.antt` proves them by computation. Assumes nothing.
+-- Inputs with their answers by the definition: document 01's whole example, alone and with a tail, three in which the fields of a record differ, four with
+-- lengths (document 02, Job 3), and three heads at the limits of the entries (document 02, Job 5). Statements alone; `proofs/Example.antt` proves them by computation. Assumes nothing.
 use Prim.Native.Nat.{ℕ}
 use mathlib.Core.Path.{_≡_}
 use mathlib.Core.List.{List, [], _∷_, _++_}
@@ -32,6 +32,10 @@ tail = two 72 68 0 1 ++ (0 ∷ [])
 abbrev pub measured : ℕ → ℕ → List ℕ
 measured a b = two 72 76 2 2 ++ (one 78 87 2 ++ (one 78 87 0 ++ (one 71 76 0 ++ (one 71 76 1 ++ (one 76 78 a ++ one 76 78 b)))))
 
+-- A head alone, of method 2 and so many slabs, by the two bytes of their number.
+abbrev pub head : ℕ → ℕ → List ℕ
+head h l = 72 ∷ 68 ∷ h ∷ l ∷ 0 ∷ 2 ∷ []
+
 pub record Examples : Type 0 where
   pub whole : responseTo input ≡ output
   pub planned : responseTo s6 ≡ s6Lifts
@@ -46,3 +50,7 @@ pub record Examples : Type 0 where
   pub overhangs-goal : responseTo (measured 7 8) ≡ two 78 79 18 2
   -- a byte after the last LN record: number 12, place 3 × 2 + 1
   pub behind-lengths : responseTo (measured 7 7 ++ (0 ∷ [])) ≡ two 78 79 12 7
+  -- the program is the yard office's: of 601 and of 4,000 slabs the next record is missing, number 12, place 1; 4,001 are too many, number 2
+  pub beyond-panel : responseTo (head 2 89) ≡ two 78 79 12 1
+  pub most-slabs : responseTo (head 15 160) ≡ two 78 79 12 1
+  pub too-many : responseTo (head 15 161) ≡ two 78 79 2 0

@@ -28,7 +28,7 @@ use Rattle.training.specs.Answers as training
 use Rattle.training.specs.declared.Trained as trained
 use Rattle.training.specs.declared.Drawn as drawn
 use Rattle.training.proofs.Theorems.{promises}
-use Rattle.topjeska.specs.Options.{lengthsBit, panelBit, optionSet, sheetBy, callBy}
+use Rattle.topjeska.specs.Options.{lengthsBit, panelBit, optionSet, sheetFor, callFor}
 use Rattle.topjeska.specs.Exports.{asCheck, asPlan, asDeadlock, asReplay, asTraining, ExportsTraining, ExportsDraw}
 use Rattle.topjeska.specs.Exports.{ExportsPlan, ExportsDeadlock, ExportsReplay}
 use Rattle.topjeska.specs.declared.CheckAnswer.{CheckAnswer}
@@ -133,20 +133,20 @@ replay-export {h} {lifts} {a = a} w e =
 
 module _ (options : ℕ) (l : List ℕ) {o : Given} (i : o .lengths ≡ optionSet options lengthsBit) {s g : State} where
   pub check-exported : {c : checked.Checked} {a : CheckAnswer} → Checks (sheetOf o s g l) c → asCheck a ≡ problem.answerOf c
-      → asCheck a ≡ checkAnswer (sheetBy options s g l)
+      → asCheck a ≡ checkAnswer (sheetFor options s g l)
   check-exported w e = rw (← i) (e ∙ w .answer)
 
   pub plan-exported : {m : ℕ} {a : calls.Call} → (a .method ≡ m) × (a .panel ≡ optionSet options panelBit) → {space : List ℕ} {r : planned.Planned}
       {space′ : List ℕ} {z : PlanAnswer} → planner.Plans (planner.callOf a) (sheetOf o s g l) space r space′ → asPlan z ≡ planner.answerOf r
-      → ExportsPlan (callBy options m) (sheetBy options s g l) space z space′
+      → ExportsPlan (callFor options m) (sheetFor options s g l) space z space′
   plan-exported k w e = rw (← i, ← k .0, ← k .1) (plan-export w e)
 
   pub deadlock-exported : {space : List ℕ} {r : tested.Tested} {space′ : List ℕ} {a : DeadlockAnswer} → deadlocks.TestsDeadlock (sheetOf o s g l) space r space′
-      → asDeadlock a ≡ deadlocks.answerOf r → ExportsDeadlock (sheetBy options s g l) space a space′
+      → asDeadlock a ≡ deadlocks.answerOf r → ExportsDeadlock (sheetFor options s g l) space a space′
   deadlock-exported w e = rw (← i) (deadlock-export w e)
 
   pub replay-exported : {lifts : List ℕ} {r : replayed.Replayed} {a : ReplayAnswer} → validator.Replays (sheetOf o s g l) lifts r
-      → asReplay a ≡ validator.answerOf r → ExportsReplay (sheetBy options s g l) lifts a
+      → asReplay a ≡ validator.answerOf r → ExportsReplay (sheetFor options s g l) lifts a
   replay-exported w e = rw (← i) (replay-export w e)
 
 -- ---- training

@@ -8,7 +8,7 @@ ghost use Rattle.planner.specs.Answers.{answerOf as plannedAs};
 ghost use Rattle.deadlocks.specs.Answers.{answerOf as testedAs};
 ghost use Rattle.validator.specs.Replayed.{answerOf as replayedAs};
 ghost use Rattle.training.specs.Answers.{answerOf};
-ghost use Rattle.topjeska.specs.Options.{lengthsBit, panelBit, optionSet, sheetBy, callBy};
+ghost use Rattle.topjeska.specs.Options.{lengthsBit, panelBit, optionSet, sheetFor, callFor};
 ghost use Rattle.topjeska.specs.Exports.{asCheck, asPlan, asDeadlock, asReplay, asTraining, ExportsTraining, ExportsDraw};
 ghost use Rattle.topjeska.specs.Exports.{ExportsPlan, ExportsDeadlock, ExportsReplay};
 use deadlocks::Tested;
@@ -85,9 +85,9 @@ pub extern "C" fn topjeska_check_with(
     goal: &[u16],
     lengths: &[u16],
 ) -> CheckAnswer
-    ensures { λ r. ⌜ asCheck r ≡ checkAnswer (sheetBy options (now (initial .entry)) (now (goal .entry)) (now (lengths .entry))) ⌝ }
+    ensures { λ r. ⌜ asCheck r ≡ checkAnswer (sheetFor options (now (initial .entry)) (now (goal .entry)) (now (lengths .entry))) ⌝ }
 {
-    let given = given_by(options);
+    let given = given_for(options);
     check_numbers(lengths::check(given, initial, goal, lengths))
 }
 
@@ -127,10 +127,10 @@ pub extern "C" fn topjeska_plan_with(
     lengths: &[u16],
     out: &mut [u16],
 ) -> PlanAnswer
-    ensures { λ r. ⌜ ExportsPlan (callBy options method) (sheetBy options (now (initial .entry)) (now (goal .entry)) (now (lengths .entry))) (now (out .entry)) r (now (out .exit)) ⌝ }
+    ensures { λ r. ⌜ ExportsPlan (callFor options method) (sheetFor options (now (initial .entry)) (now (goal .entry)) (now (lengths .entry))) (now (out .entry)) r (now (out .exit)) ⌝ }
 {
-    let call = call_by(options, method);
-    let given = given_by(options);
+    let call = call_for(options, method);
+    let given = given_for(options);
     plan_numbers(planner::plan(call, given, initial, goal, lengths, out))
 }
 
@@ -155,9 +155,9 @@ pub extern "C" fn topjeska_deadlock_with(
     lengths: &[u16],
     out: &mut [u16],
 ) -> DeadlockAnswer
-    ensures { λ r. ⌜ ExportsDeadlock (sheetBy options (now (initial .entry)) (now (goal .entry)) (now (lengths .entry))) (now (out .entry)) r (now (out .exit)) ⌝ }
+    ensures { λ r. ⌜ ExportsDeadlock (sheetFor options (now (initial .entry)) (now (goal .entry)) (now (lengths .entry))) (now (out .entry)) r (now (out .exit)) ⌝ }
 {
-    let given = given_by(options);
+    let given = given_for(options);
     deadlock_numbers(deadlocks::deadlock(given, initial, goal, lengths, out))
 }
 
@@ -178,9 +178,9 @@ pub extern "C" fn topjeska_replay_with(
     lengths: &[u16],
     lifts: &[u16],
 ) -> ReplayAnswer
-    ensures { λ r. ⌜ ExportsReplay (sheetBy options (now (initial .entry)) (now (goal .entry)) (now (lengths .entry))) (now (lifts .entry)) r ⌝ }
+    ensures { λ r. ⌜ ExportsReplay (sheetFor options (now (initial .entry)) (now (goal .entry)) (now (lengths .entry))) (now (lifts .entry)) r ⌝ }
 {
-    let given = given_by(options);
+    let given = given_for(options);
     replay_numbers(validator::validate(given, initial, goal, lengths, lifts))
 }
 
@@ -245,7 +245,7 @@ fn has_option(options: u16, bit: u16) -> bool
 }
 
 // Which lists are given, and how planning is asked, by the options.
-fn given_by(options: u16) -> Given
+fn given_for(options: u16) -> Given
     ensures { λ r. ⌜ r .lengths ≡ optionSet options lengthsBit ⌝ }
 {
     Given {
@@ -253,7 +253,7 @@ fn given_by(options: u16) -> Given
     }
 }
 
-fn call_by(options: u16, method: u16) -> Call
+fn call_for(options: u16, method: u16) -> Call
     ensures { λ r. ⌜ (r .method ≡ method) × (r .panel ≡ optionSet options panelBit) ⌝ }
 {
     Call {

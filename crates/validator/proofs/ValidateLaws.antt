@@ -1,7 +1,7 @@
 -- Replay whole: what each way out of `validate` answers, and what an accepted sheet lends to the moves. Assumes nothing.
 use Prim.Native.Nat.{ℕ, _%_}
 use mathlib.Core.Path.{_≡_, refl, sym, ap, ap₂, _∙_}
-use mathlib.Core.Logic.{inl, inr, _≢_}
+use mathlib.Core.Logic.{inl, _≢_}
 use mathlib.Core.List.{List, _∷_, []}
 use mathlib.Core.Option.{none, some}
 use native.Mathlib.Omega.{arith}

@@ -4,8 +4,8 @@ use Rattle.topjeska.proofs.ExportLaws.{check-exported}
 use Rattle.topjeska.proofs.topjeska_check_with.Statement.{statement}
 use Rattle.topjeska.proofs.topjeska_check_with.Tie as tie
 
-given-by-requires : tie.Need-given-by-requires
-given-by-requires c κs = search needs
+given-for-requires : tie.Need-given-for-requires
+given-for-requires c κs = search needs
 
 check-requires : tie.Need-check-requires
 check-requires c κs = search needs
@@ -18,4 +18,4 @@ returns c = search (needs, check-exported)
 
 pub topjeska-check-with-spec : {M : Type 1} → statement M
 topjeska-check-with-spec =
-    tie.close (tie.spec given-by-requires check-requires check-numbers-requires returns)
+    tie.close (tie.spec given-for-requires check-requires check-numbers-requires returns)

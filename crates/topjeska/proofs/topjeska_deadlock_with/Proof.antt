@@ -4,8 +4,8 @@ use Rattle.topjeska.proofs.ExportLaws.{deadlock-exported}
 use Rattle.topjeska.proofs.topjeska_deadlock_with.Statement.{statement}
 use Rattle.topjeska.proofs.topjeska_deadlock_with.Tie as tie
 
-given-by-requires : tie.Need-given-by-requires
-given-by-requires c κs = search needs
+given-for-requires : tie.Need-given-for-requires
+given-for-requires c κs = search needs
 
 deadlock-requires : tie.Need-deadlock-requires
 deadlock-requires c κs = search needs
@@ -23,7 +23,7 @@ pub topjeska-deadlock-with-spec : {M : Type 1} → statement M
 topjeska-deadlock-with-spec =
     tie.close
     (tie.spec
-    given-by-requires
+    given-for-requires
     deadlock-requires
     deadlock-numbers-requires
     same-length

@@ -4,11 +4,11 @@ use Rattle.topjeska.proofs.ExportLaws.{plan-exported}
 use Rattle.topjeska.proofs.topjeska_plan_with.Statement.{statement}
 use Rattle.topjeska.proofs.topjeska_plan_with.Tie as tie
 
-call-by-requires : tie.Need-call-by-requires
-call-by-requires c κs = search needs
+call-for-requires : tie.Need-call-for-requires
+call-for-requires c κs = search needs
 
-given-by-requires : tie.Need-given-by-requires
-given-by-requires c κs = search needs
+given-for-requires : tie.Need-given-for-requires
+given-for-requires c κs = search needs
 
 plan-requires : tie.Need-plan-requires
 plan-requires c κs = search needs
@@ -25,4 +25,4 @@ returns c = search (needs, plan-exported)
 pub topjeska-plan-with-spec : {M : Type 1} → statement M
 topjeska-plan-with-spec =
     tie.close
-    (tie.spec call-by-requires given-by-requires plan-requires plan-numbers-requires same-length returns)
+    (tie.spec call-for-requires given-for-requires plan-requires plan-numbers-requires same-length returns)

@@ -4,8 +4,8 @@ use Rattle.topjeska.proofs.ExportLaws.{replay-exported}
 use Rattle.topjeska.proofs.topjeska_replay_with.Statement.{statement}
 use Rattle.topjeska.proofs.topjeska_replay_with.Tie as tie
 
-given-by-requires : tie.Need-given-by-requires
-given-by-requires c κs = search needs
+given-for-requires : tie.Need-given-for-requires
+given-for-requires c κs = search needs
 
 validate-requires : tie.Need-validate-requires
 validate-requires c κs = search needs
@@ -18,4 +18,4 @@ returns c = search (needs, replay-exported)
 
 pub topjeska-replay-with-spec : {M : Type 1} → statement M
 topjeska-replay-with-spec =
-    tie.close (tie.spec given-by-requires validate-requires replay-numbers-requires returns)
+    tie.close (tie.spec given-for-requires validate-requires replay-numbers-requires returns)
