@@ -53,8 +53,8 @@ pub record Replayable (h : Sheet) (lifts : List ℕ) : Type 0 where
 -- ---- what options leave as it is
 
 -- Document 02, Job 3: "Sheets without lengths are answered as before": document 01's sheet, by the office's entry, is asked document 01's questions, is accepted
--- where they all get a yes, and its goal state is the goal list; so planning and the deadlock test answer as before. For replay, a plan is legal, and arrives,
--- where it is legal, and ends in the goal list.
+-- where they all get a yes, and its goal state is the goal list, so that planning and the deadlock test answer as before. For replay a lift has document 01's
+-- questions, and a plan is legal and arrives just where document 01 says so.
 pub record AsBefore (s g : State) : Type 1 where
   pub check : sheetQuestions none (plain s g) ≡ problemQuestions s g
   pub plan : (m : ℕ) (space : List ℕ) → planQuestions (office m) (plain s g) space

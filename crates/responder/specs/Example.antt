@@ -1,5 +1,6 @@
 -- Inputs with their answers by the definition: document 01's whole example, alone and with a tail, three in which the fields of a record differ, four with
--- lengths (document 02, Job 3), and three heads at the limits of the entries (document 02, Job 5). Statements alone; `proofs/Example.antt` proves them by computation. Assumes nothing.
+-- lengths (document 02, Job 3), and three heads at the limits of the entries (document 02, Job 5). Statements alone; `proofs/Example.antt` proves them by
+-- computation. Assumes nothing.
 use Prim.Native.Nat.{ℕ}
 use mathlib.Core.Path.{_≡_}
 use mathlib.Core.List.{List, [], _∷_, _++_}
