@@ -1,5 +1,5 @@
 -- Problems, and the blocks that stand right (document 01, "The yard"; document 001, sections 2.1 and 3.1).
--- Document 01 says sheet for problem, now for the initial state. Assumes nothing.
+-- Document 01's sheet without options is a problem; it says now for the initial state. Assumes nothing.
 use Prim.Native.Nat.{ℕ, suc, _≤_}
 use mathlib.Core.Path.{_≡_}
 use mathlib.Core.Logic.{_≢_}
