@@ -14,14 +14,9 @@ use rows::MOST;
 use sheets::Head;
 use sheets::Sheet;
 
-// The bytes of HD and of HL.
-const HEAD: usize = 6;
-
-// The bytes of a NW, GL or LN record.
-const ENTRY: usize = 4;
-
-// The longest input without a tail, HL, MOST NW, MOST GL and MOST LN records, and a byte by which a tail is seen.
-pub const KEPT: usize = HEAD + 3 * ENTRY * MOST + 1;
+// The longest input without a tail, HL, MOST NW, MOST GL and MOST LN records, and a byte by which a tail is seen. In numbers, because a constant calls
+// no function; `plan` proves that they are enough.
+pub const KEPT: usize = 6 + 12 * MOST + 1;
 
 // The longest output: PL and 2 × MOST LF records.
 pub const LONGEST_ANSWER: usize = 6 + 12 * MOST;
@@ -53,7 +48,7 @@ pub fn wanted(input: &[u8]) -> usize
         method: second,
     } = head
     else {
-        return up_to(HEAD, input.len());
+        return up_to(records::size(Kind::Hd), input.len());
     };
     let named = planner::method_of(second);
     let Named::By(_) = named else {
@@ -62,7 +57,8 @@ pub fn wanted(input: &[u8]) -> usize
     if input.len() < decided_by(input) {
         let n = lists::wide(first);
         let k = sheets::length_count(measured, n);
-        up_to(HEAD + ENTRY * (2 * n + k) + 1, input.len())
+        let end = records::size(Kind::Hd) + (2 * n + k) * records::size(Kind::Nw);
+        up_to(end + 1, input.len())
     } else {
         0
     }
@@ -76,10 +72,11 @@ fn decided_by(input: &[u8]) -> usize
     let mut goal = [0u16; MOST];
     let mut lengths = [0u16; MOST];
     let sheet = sheets::read_sheet(input, 0, &mut initial, &mut goal, &mut lengths);
+    let head = records::size(Kind::Hd);
     match sheet {
-        Sheet::Headless => HEAD,
-        Sheet::Long { method: _ } => HEAD,
-        Sheet::Broken { method: _, before } => HEAD + ENTRY * lists::wide(before),
+        Sheet::Headless => head,
+        Sheet::Long { method: _ } => head,
+        Sheet::Broken { method: _, before } => head + lists::wide(before) * records::size(Kind::Nw),
         Sheet::Whole {
             n: _,
             method: _,

@@ -1,11 +1,16 @@
 -- `decided_by` meets its contract: one law for each case of a sheet. Assumes nothing.
+use native.Mathlib.Omega.{arith}
 use borrow.Author.Needs.{needs}
-use Rattle.responder.proofs.WantedLaws.{headless-case, long-case, broken-case, whole-case, whole-fits}
+use Rattle.sheets.proofs.PlaceLaws.{size-hd}
+use Rattle.responder.proofs.WantedLaws.{size-le, product-fits, sum-fits, headless-case, long-case, broken-case, whole-case, whole-fits}
 use Rattle.responder.proofs.decided_by.Statement.{statement}
 use Rattle.responder.proofs.decided_by.Tie as tie
 
 read-sheet-requires : tie.Need-read-sheet-requires
 read-sheet-requires c κs = search needs
+
+size-requires : tie.Need-size-requires
+size-requires c κs = search needs
 
 enum-told : tie.Need-enum-told
 enum-told c = search needs
@@ -19,11 +24,14 @@ enum-known-sheet c = search needs
 wide-requires : tie.Need-wide-requires
 wide-requires c κs = search needs
 
+size-requires-2 : tie.Need-size-requires-2
+size-requires-2 c κs = search needs
+
 mul-result : tie.Need-mul-result
-mul-result c = search needs
+mul-result c = record { fits = product-fits (omega arith) (search size-le) }
 
 add-result : tie.Need-add-result
-add-result c = search needs
+add-result c = record { fits = sum-fits (omega arith) (search size-le) (omega (arith, size-hd)) }
 
 enum-known-sheet-2 : tie.Need-enum-known-sheet-2
 enum-known-sheet-2 c = search needs
@@ -48,10 +56,12 @@ decided-by-spec =
     tie.close
     (tie.spec
     read-sheet-requires
+    size-requires
     enum-told
     enum-told-2
     enum-known-sheet
     wide-requires
+    size-requires-2
     mul-result
     add-result
     enum-known-sheet-2

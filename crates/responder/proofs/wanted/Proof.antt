@@ -1,6 +1,8 @@
 -- `wanted` meets its contract: one law for each way out. Assumes nothing.
+use native.Mathlib.Omega.{arith}
 use borrow.Author.Needs.{needs}
-use Rattle.responder.proofs.WantedLaws.{headless-way, unknown-way, wanting-way, decided-way}
+use Rattle.sheets.proofs.PlaceLaws.{size-hd}
+use Rattle.responder.proofs.WantedLaws.{size-le, product-fits, sum-fits, next-fits, headless-way, unknown-way, wanting-way, decided-way}
 use Rattle.responder.proofs.wanted.Statement.{statement}
 use Rattle.responder.proofs.wanted.Tie as tie
 
@@ -12,6 +14,9 @@ enum-known-head c = search needs
 
 enum-told : tie.Need-enum-told
 enum-told c = search needs
+
+size-requires : tie.Need-size-requires
+size-requires c κs = search needs
 
 up-to-requires : tie.Need-up-to-requires
 up-to-requires c κs = search needs
@@ -40,20 +45,26 @@ wide-requires c κs = search needs
 length-count-requires : tie.Need-length-count-requires
 length-count-requires c κs = search needs
 
-mul-up-to : tie.Need-mul-up-to
-mul-up-to c = search needs
+size-requires-2 : tie.Need-size-requires-2
+size-requires-2 c κs = search needs
+
+mul-end : tie.Need-mul-end
+mul-end c = search needs
+
+add-end : tie.Need-add-end
+add-end c = search needs
+
+size-requires-3 : tie.Need-size-requires-3
+size-requires-3 c κs = search needs
+
+mul-end-2 : tie.Need-mul-end-2
+mul-end-2 c = record { fits = product-fits (omega arith) (search size-le) }
+
+add-end-2 : tie.Need-add-end-2
+add-end-2 c = record { fits = sum-fits (omega arith) (search size-le) (omega (arith, size-hd)) }
 
 add-up-to : tie.Need-add-up-to
-add-up-to c = search needs
-
-mul-up-to-2 : tie.Need-mul-up-to-2
-mul-up-to-2 c = search needs
-
-add-up-to-2 : tie.Need-add-up-to-2
-add-up-to-2 c = search needs
-
-add-up-to-3 : tie.Need-add-up-to-3
-add-up-to-3 c = search needs
+add-up-to c = record { fits = next-fits (omega arith) (search size-le) (omega (arith, size-hd)) }
 
 up-to-requires-2 : tie.Need-up-to-requires-2
 up-to-requires-2 c κs = search needs
@@ -71,6 +82,7 @@ wanted-spec =
     read-head-requires
     enum-known-head
     enum-told
+    size-requires
     up-to-requires
     returns
     method-of-requires
@@ -80,11 +92,13 @@ wanted-spec =
     decided-by-requires
     wide-requires
     length-count-requires
-    mul-up-to
+    size-requires-2
+    mul-end
+    add-end
+    size-requires-3
+    mul-end-2
+    add-end-2
     add-up-to
-    mul-up-to-2
-    add-up-to-2
-    add-up-to-3
     up-to-requires-2
     returns-3
     returns-4)
