@@ -161,8 +161,10 @@ ties =
     gives (plain (2 ∷ 0 ∷ 4 ∷ 0 ∷ []) (4 ∷ 0 ∷ 2 ∷ 0 ∷ [])) 1 (1 ∷ 0 ∷ 3 ∷ 0 ∷ 1 ∷ 4 ∷ 3 ∷ 2 ∷ []) ∷
     gives (plain (2 ∷ 3 ∷ 0 ∷ 5 ∷ 0 ∷ []) (5 ∷ 0 ∷ 0 ∷ 3 ∷ 2 ∷ [])) 1 (1 ∷ 0 ∷ 2 ∷ 0 ∷ 4 ∷ 0 ∷ 4 ∷ 3 ∷ 5 ∷ 2 ∷ 1 ∷ 5 ∷ []) ∷
     gives (plain (3 ∷ 0 ∷ 0 ∷ 5 ∷ 2 ∷ []) (2 ∷ 4 ∷ 0 ∷ 0 ∷ 3 ∷ [])) 1 (1 ∷ 0 ∷ 4 ∷ 0 ∷ 5 ∷ 0 ∷ 2 ∷ 4 ∷ 1 ∷ 2 ∷ 5 ∷ 3 ∷ []) ∷
+    gives (plain (0 ∷ 5 ∷ 4 ∷ 0 ∷ 1 ∷ []) (0 ∷ 0 ∷ 4 ∷ 1 ∷ 0 ∷ [])) 1 (2 ∷ 0 ∷ 3 ∷ 0 ∷ 5 ∷ 0 ∷ 4 ∷ 1 ∷ 3 ∷ 4 ∷ []) ∷
     gives (plain (0 ∷ 0 ∷ 2 ∷ 1 ∷ []) (0 ∷ 0 ∷ 1 ∷ 2 ∷ [])) 2 (3 ∷ 0 ∷ 4 ∷ 2 ∷ 3 ∷ 1 ∷ []) ∷
     gives (plain (3 ∷ 0 ∷ 4 ∷ 0 ∷ 2 ∷ 1 ∷ []) (2 ∷ 0 ∷ 1 ∷ 0 ∷ 4 ∷ 5 ∷ [])) 2 (5 ∷ 0 ∷ 6 ∷ 0 ∷ 1 ∷ 2 ∷ 3 ∷ 1 ∷ 5 ∷ 4 ∷ 6 ∷ 5 ∷ []) ∷
+    gives (plain (5 ∷ 0 ∷ 4 ∷ 0 ∷ 2 ∷ []) (2 ∷ 0 ∷ 4 ∷ 5 ∷ 1 ∷ [])) 2 (1 ∷ 0 ∷ 3 ∷ 0 ∷ 5 ∷ 0 ∷ 1 ∷ 2 ∷ 5 ∷ 1 ∷ 4 ∷ 5 ∷ 3 ∷ 4 ∷ []) ∷
     -- the lowest slab on the loop is put down, and the loop is that of the lowest misplaced clear slab, on or off the ground;
     -- method 3 may write more lifts than method 2
     gives (plain (2 ∷ 0 ∷ 4 ∷ 0 ∷ []) (4 ∷ 0 ∷ 2 ∷ 0 ∷ [])) 3 (1 ∷ 0 ∷ 3 ∷ 2 ∷ 1 ∷ 4 ∷ []) ∷
@@ -175,6 +177,9 @@ ties =
     gives (plain (4 ∷ 0 ∷ 2 ∷ 0 ∷ 1 ∷ 3 ∷ []) (0 ∷ 6 ∷ 4 ∷ 2 ∷ 1 ∷ 0 ∷ [])) 3 (6 ∷ 0 ∷ 3 ∷ 0 ∷ 2 ∷ 6 ∷ 5 ∷ 0 ∷ 1 ∷ 0 ∷ 4 ∷ 2 ∷ 3 ∷ 4 ∷ 5 ∷ 1 ∷ []) ∷
     gives (plain (3 ∷ 0 ∷ 2 ∷ 1 ∷ 7 ∷ 0 ∷ 0 ∷ []) (2 ∷ 0 ∷ 0 ∷ 3 ∷ 6 ∷ 7 ∷ 0 ∷ [])) 3 (4 ∷ 0 ∷ 1 ∷ 0 ∷ 3 ∷ 0 ∷ 1 ∷ 2 ∷ 4 ∷ 3 ∷ 5 ∷ 0 ∷ 6 ∷ 7 ∷ 5 ∷ 6 ∷ []) ∷
     gives (plain (0 ∷ 6 ∷ 7 ∷ 8 ∷ 9 ∷ 0 ∷ 0 ∷ 0 ∷ 0 ∷ []) (8 ∷ 7 ∷ 6 ∷ 9 ∷ 1 ∷ 0 ∷ 0 ∷ 0 ∷ 0 ∷ [])) 3 (4 ∷ 0 ∷ 1 ∷ 8 ∷ 5 ∷ 1 ∷ 4 ∷ 9 ∷ 2 ∷ 0 ∷ 3 ∷ 6 ∷ 2 ∷ 7 ∷ []) ∷
+    -- the successor is above c, and not above d, where both carry a slab
+    gives (plain (0 ∷ 0 ∷ 1 ∷ 2 ∷ []) (0 ∷ 1 ∷ 2 ∷ 3 ∷ [])) 3 (3 ∷ 0 ∷ 4 ∷ 0 ∷ 2 ∷ 1 ∷ 3 ∷ 2 ∷ 4 ∷ 3 ∷ []) ∷
+    shows (plain (0 ∷ 0 ∷ 1 ∷ 2 ∷ []) (0 ∷ 1 ∷ 2 ∷ 3 ∷ [])) (3 ∷ 1 ∷ 1 ∷ []) ∷
     -- and so are the rows of the deadlock test
     shows (plain (0 ∷ 0 ∷ 0 ∷ 2 ∷ 1 ∷ []) (0 ∷ 0 ∷ 1 ∷ 3 ∷ 2 ∷ [])) (4 ∷ 1 ∷ 1 ∷ 5 ∷ 2 ∷ 2 ∷ []) ∷
     shows (plain (3 ∷ 4 ∷ 5 ∷ 0 ∷ 0 ∷ []) (3 ∷ 5 ∷ 0 ∷ 0 ∷ 4 ∷ [])) (1 ∷ 3 ∷ 0 ∷ []) ∷
@@ -182,6 +187,48 @@ ties =
     shows (plain (2 ∷ 3 ∷ 0 ∷ 0 ∷ 0 ∷ []) (2 ∷ 5 ∷ 0 ∷ 0 ∷ 4 ∷ [])) (1 ∷ 2 ∷ 5 ∷ []) ∷
     -- and not what the block rests on in the goal: 5 and 3 lie between 1 and 4
     shows (plain (2 ∷ 3 ∷ 0 ∷ 0 ∷ 0 ∷ []) (5 ∷ 0 ∷ 4 ∷ 0 ∷ 3 ∷ [])) (1 ∷ 3 ∷ 4 ∷ []) ∷
+    -- c or d is in the way, and not another slab that is beneath both: 5 beneath 4; 2 between 1 and 3
+    shows (plain (2 ∷ 0 ∷ 4 ∷ 5 ∷ 0 ∷ []) (4 ∷ 0 ∷ 2 ∷ 5 ∷ 0 ∷ [])) (1 ∷ 4 ∷ 4 ∷ 3 ∷ 2 ∷ 2 ∷ []) ∷
+    shows (plain (2 ∷ 3 ∷ 4 ∷ 0 ∷ 0 ∷ []) (2 ∷ 3 ∷ 5 ∷ 0 ∷ 0 ∷ [])) (1 ∷ 3 ∷ 5 ∷ []) ∷
+    -- loops of three and of four, in the order of successors; the second is entered at 3, and begins with 2
+    gives (plain (4 ∷ 5 ∷ 6 ∷ 0 ∷ 0 ∷ 0 ∷ []) (6 ∷ 4 ∷ 5 ∷ 0 ∷ 0 ∷ 0 ∷ [])) 3 (1 ∷ 0 ∷ 2 ∷ 4 ∷ 3 ∷ 5 ∷ 1 ∷ 6 ∷ []) ∷
+    shows (plain (4 ∷ 5 ∷ 6 ∷ 0 ∷ 0 ∷ 0 ∷ []) (6 ∷ 4 ∷ 5 ∷ 0 ∷ 0 ∷ 0 ∷ [])) (1 ∷ 6 ∷ 6 ∷ 3 ∷ 5 ∷ 5 ∷ 2 ∷ 4 ∷ 4 ∷ []) ∷
+    gives (plain (0 ∷ 6 ∷ 7 ∷ 8 ∷ 9 ∷ 0 ∷ 0 ∷ 0 ∷ 0 ∷ []) (7 ∷ 9 ∷ 8 ∷ 6 ∷ 1 ∷ 0 ∷ 0 ∷ 0 ∷ 0 ∷ [])) 3 (2 ∷ 0 ∷ 4 ∷ 6 ∷ 3 ∷ 8 ∷ 1 ∷ 7 ∷ 5 ∷ 1 ∷ 2 ∷ 9 ∷ []) ∷
+    shows (plain (0 ∷ 6 ∷ 7 ∷ 8 ∷ 9 ∷ 0 ∷ 0 ∷ 0 ∷ 0 ∷ []) (7 ∷ 9 ∷ 8 ∷ 6 ∷ 1 ∷ 0 ∷ 0 ∷ 0 ∷ 0 ∷ [])) (2 ∷ 9 ∷ 9 ∷ 5 ∷ 7 ∷ 7 ∷ 3 ∷ 8 ∷ 8 ∷ 4 ∷ 6 ∷ 6 ∷ []) ∷
+    []
+
+-- Rivals of "the lowest-numbered" (docs/DECISIONS.md, "Tables with whole lists"): each row tells some other rule that no row of `ties` tells.
+abbrev pub rivals : List Claim
+rivals =
+    -- method 1
+    gives (plain (4 ∷ 0 ∷ 0 ∷ 0 ∷ []) (0 ∷ 1 ∷ 4 ∷ 0 ∷ [])) 1 (1 ∷ 0 ∷ 2 ∷ 1 ∷ 3 ∷ 4 ∷ []) ∷
+    gives (plain (2 ∷ 0 ∷ 0 ∷ 1 ∷ 6 ∷ 0 ∷ []) (3 ∷ 0 ∷ 0 ∷ 6 ∷ 1 ∷ 0 ∷ [])) 1 (4 ∷ 0 ∷ 1 ∷ 0 ∷ 5 ∷ 0 ∷ 1 ∷ 3 ∷ 4 ∷ 6 ∷ 5 ∷ 1 ∷ []) ∷
+    gives (plain (5 ∷ 0 ∷ 4 ∷ 2 ∷ 6 ∷ 0 ∷ []) (0 ∷ 0 ∷ 5 ∷ 3 ∷ 1 ∷ 4 ∷ [])) 1 (1 ∷ 0 ∷ 3 ∷ 0 ∷ 4 ∷ 0 ∷ 5 ∷ 0 ∷ 5 ∷ 1 ∷ 3 ∷ 5 ∷ 4 ∷ 3 ∷ 6 ∷ 4 ∷ []) ∷
+    -- method 2
+    gives (plain (0 ∷ 5 ∷ 4 ∷ 2 ∷ 1 ∷ []) (3 ∷ 0 ∷ 4 ∷ 0 ∷ 0 ∷ [])) 2 (3 ∷ 0 ∷ 4 ∷ 0 ∷ 2 ∷ 0 ∷ 3 ∷ 4 ∷ 5 ∷ 0 ∷ 1 ∷ 3 ∷ []) ∷
+    gives (plain (6 ∷ 0 ∷ 0 ∷ 1 ∷ 2 ∷ 3 ∷ []) (5 ∷ 0 ∷ 0 ∷ 3 ∷ 6 ∷ 2 ∷ [])) 2 (4 ∷ 0 ∷ 1 ∷ 0 ∷ 5 ∷ 0 ∷ 6 ∷ 2 ∷ 4 ∷ 3 ∷ 5 ∷ 6 ∷ 1 ∷ 5 ∷ []) ∷
+    gives (plain (0 ∷ 0 ∷ 5 ∷ 3 ∷ 0 ∷ 7 ∷ 1 ∷ []) (0 ∷ 3 ∷ 0 ∷ 5 ∷ 0 ∷ 2 ∷ 6 ∷ [])) 2 (4 ∷ 0 ∷ 3 ∷ 0 ∷ 2 ∷ 3 ∷ 4 ∷ 5 ∷ 6 ∷ 2 ∷ 7 ∷ 6 ∷ []) ∷
+    gives (plain (6 ∷ 0 ∷ 5 ∷ 0 ∷ 7 ∷ 4 ∷ 2 ∷ []) (7 ∷ 0 ∷ 2 ∷ 0 ∷ 4 ∷ 5 ∷ 3 ∷ [])) 2 (1 ∷ 0 ∷ 3 ∷ 0 ∷ 5 ∷ 0 ∷ 6 ∷ 0 ∷ 5 ∷ 4 ∷ 6 ∷ 5 ∷ 7 ∷ 0 ∷ 3 ∷ 2 ∷ 7 ∷ 3 ∷ 1 ∷ 7 ∷ []) ∷
+    -- method 3
+    gives (plain (0 ∷ 1 ∷ 4 ∷ 0 ∷ []) (0 ∷ 0 ∷ 0 ∷ 3 ∷ [])) 3 (2 ∷ 0 ∷ 3 ∷ 0 ∷ 4 ∷ 3 ∷ []) ∷
+    gives (plain (2 ∷ 0 ∷ 5 ∷ 1 ∷ 6 ∷ 0 ∷ []) (6 ∷ 0 ∷ 2 ∷ 1 ∷ 3 ∷ 0 ∷ [])) 3 (3 ∷ 0 ∷ 4 ∷ 0 ∷ 1 ∷ 0 ∷ 3 ∷ 2 ∷ 5 ∷ 3 ∷ 1 ∷ 6 ∷ 4 ∷ 1 ∷ []) ∷
+    gives (plain (5 ∷ 3 ∷ 0 ∷ 2 ∷ 0 ∷ 1 ∷ []) (0 ∷ 4 ∷ 0 ∷ 3 ∷ 0 ∷ 1 ∷ [])) 3 (4 ∷ 0 ∷ 2 ∷ 0 ∷ 4 ∷ 3 ∷ 2 ∷ 4 ∷ 6 ∷ 0 ∷ 1 ∷ 0 ∷ 6 ∷ 1 ∷ []) ∷
+    gives (plain (0 ∷ 0 ∷ 1 ∷ 2 ∷ 7 ∷ 0 ∷ 0 ∷ []) (5 ∷ 0 ∷ 2 ∷ 7 ∷ 0 ∷ 4 ∷ 1 ∷ [])) 3 (5 ∷ 0 ∷ 3 ∷ 0 ∷ 1 ∷ 5 ∷ 7 ∷ 1 ∷ 4 ∷ 7 ∷ 3 ∷ 2 ∷ 6 ∷ 4 ∷ []) ∷
+    gives (plain (5 ∷ 0 ∷ 2 ∷ 3 ∷ 6 ∷ 7 ∷ 0 ∷ []) (5 ∷ 0 ∷ 7 ∷ 2 ∷ 6 ∷ 3 ∷ 0 ∷ [])) 3 (1 ∷ 0 ∷ 5 ∷ 0 ∷ 6 ∷ 0 ∷ 4 ∷ 0 ∷ 3 ∷ 7 ∷ 4 ∷ 2 ∷ 6 ∷ 3 ∷ 5 ∷ 6 ∷ 1 ∷ 5 ∷ []) ∷
+    gives (plain (6 ∷ 3 ∷ 0 ∷ 7 ∷ 2 ∷ 0 ∷ 5 ∷ []) (6 ∷ 0 ∷ 1 ∷ 5 ∷ 2 ∷ 7 ∷ 0 ∷ [])) 3 (4 ∷ 0 ∷ 7 ∷ 0 ∷ 1 ∷ 0 ∷ 6 ∷ 7 ∷ 1 ∷ 6 ∷ 5 ∷ 0 ∷ 2 ∷ 0 ∷ 3 ∷ 1 ∷ 5 ∷ 2 ∷ 4 ∷ 5 ∷ []) ∷
+    gives (plain (6 ∷ 5 ∷ 7 ∷ 0 ∷ 1 ∷ 0 ∷ 0 ∷ []) (0 ∷ 5 ∷ 1 ∷ 3 ∷ 6 ∷ 7 ∷ 0 ∷ [])) 3 (2 ∷ 0 ∷ 3 ∷ 0 ∷ 5 ∷ 0 ∷ 1 ∷ 0 ∷ 3 ∷ 1 ∷ 4 ∷ 3 ∷ 6 ∷ 7 ∷ 5 ∷ 6 ∷ 2 ∷ 5 ∷ []) ∷
+    gives (plain (0 ∷ 0 ∷ 5 ∷ 7 ∷ 2 ∷ 8 ∷ 1 ∷ 0 ∷ []) (0 ∷ 0 ∷ 7 ∷ 5 ∷ 8 ∷ 1 ∷ 2 ∷ 0 ∷ [])) 3 (3 ∷ 0 ∷ 4 ∷ 0 ∷ 5 ∷ 0 ∷ 7 ∷ 2 ∷ 3 ∷ 7 ∷ 6 ∷ 1 ∷ 5 ∷ 8 ∷ 4 ∷ 5 ∷ []) ∷
+    gives (plain (0 ∷ 8 ∷ 6 ∷ 2 ∷ 0 ∷ 0 ∷ 1 ∷ 0 ∷ []) (0 ∷ 7 ∷ 1 ∷ 8 ∷ 0 ∷ 0 ∷ 6 ∷ 0 ∷ [])) 3 (3 ∷ 0 ∷ 7 ∷ 6 ∷ 3 ∷ 1 ∷ 4 ∷ 0 ∷ 2 ∷ 7 ∷ 4 ∷ 8 ∷ []) ∷
+    -- the deadlock test, where its walk begins
+    shows (plain (0 ∷ 3 ∷ 0 ∷ 5 ∷ 1 ∷ []) (0 ∷ 5 ∷ 0 ∷ 1 ∷ 3 ∷ [])) (2 ∷ 3 ∷ 3 ∷ []) ∷
+    shows (plain (0 ∷ 3 ∷ 1 ∷ 5 ∷ 0 ∷ 0 ∷ 4 ∷ []) (0 ∷ 1 ∷ 4 ∷ 0 ∷ 7 ∷ 3 ∷ 6 ∷ [])) (2 ∷ 1 ∷ 1 ∷ []) ∷
+    shows (plain (3 ∷ 0 ∷ 2 ∷ 7 ∷ 1 ∷ 4 ∷ 0 ∷ []) (2 ∷ 5 ∷ 1 ∷ 0 ∷ 0 ∷ 4 ∷ 0 ∷ [])) (1 ∷ 2 ∷ 5 ∷ []) ∷
+    shows (plain (6 ∷ 0 ∷ 7 ∷ 0 ∷ 0 ∷ 0 ∷ 5 ∷ []) (2 ∷ 4 ∷ 5 ∷ 6 ∷ 0 ∷ 0 ∷ 3 ∷ [])) (1 ∷ 6 ∷ 6 ∷ []) ∷
+    shows (plain (0 ∷ 1 ∷ 2 ∷ 8 ∷ 0 ∷ 7 ∷ 0 ∷ 5 ∷ []) (0 ∷ 4 ∷ 1 ∷ 7 ∷ 0 ∷ 8 ∷ 0 ∷ 5 ∷ [])) (3 ∷ 1 ∷ 1 ∷ []) ∷
+    shows (plain (0 ∷ 8 ∷ 6 ∷ 2 ∷ 0 ∷ 0 ∷ 1 ∷ 0 ∷ []) (0 ∷ 7 ∷ 1 ∷ 8 ∷ 0 ∷ 0 ∷ 6 ∷ 0 ∷ [])) (3 ∷ 1 ∷ 1 ∷ 7 ∷ 6 ∷ 6 ∷ []) ∷
+    shows (plain (4 ∷ 0 ∷ 0 ∷ 2 ∷ 0 ∷ 8 ∷ 5 ∷ 0 ∷ []) (0 ∷ 7 ∷ 8 ∷ 5 ∷ 0 ∷ 3 ∷ 4 ∷ 0 ∷ [])) (6 ∷ 8 ∷ 8 ∷ []) ∷
+    shows (plain (6 ∷ 1 ∷ 0 ∷ 3 ∷ 7 ∷ 0 ∷ 0 ∷ []) (0 ∷ 6 ∷ 5 ∷ 3 ∷ 0 ∷ 0 ∷ 4 ∷ [])) (2 ∷ 6 ∷ 6 ∷ []) ∷
+    shows (plain (0 ∷ 0 ∷ 2 ∷ 6 ∷ 7 ∷ 1 ∷ 0 ∷ []) (5 ∷ 0 ∷ 7 ∷ 0 ∷ 4 ∷ 1 ∷ 2 ∷ [])) (3 ∷ 2 ∷ 2 ∷ []) ∷
     []
 
 -- Every misplaced slab is counted and no other, as the yard stands at the start.
@@ -193,6 +240,10 @@ counts =
     misplaces S5 4 ∷
     misplaces (plain (3 ∷ 1 ∷ 0 ∷ 5 ∷ 0 ∷ []) (3 ∷ 1 ∷ 4 ∷ 5 ∷ 0 ∷ [])) 3 ∷
     misplaces (plain (0 ∷ 1 ∷ 2 ∷ []) (0 ∷ 1 ∷ 2 ∷ [])) 0 ∷
+    -- 5 rests on 4, as it shall, and the foot of its pile and the slabs beneath it are those of the goal, in another order
+    misplaces (plain (0 ∷ 1 ∷ 2 ∷ 3 ∷ 4 ∷ []) (0 ∷ 3 ∷ 1 ∷ 2 ∷ 4 ∷ [])) 4 ∷
+    -- 3, 4 and 5 rest where they shall, and 2 beneath them does not
+    misplaces (plain (0 ∷ 1 ∷ 2 ∷ 3 ∷ 4 ∷ []) (0 ∷ 0 ∷ 2 ∷ 3 ∷ 4 ∷ [])) 4 ∷
     []
 
 -- S2 needs as many lifts as slabs are misplaced; S6, which has a deadlock, one more.
@@ -236,15 +287,26 @@ verdicts =
     replays S2 (2 ∷ 3 ∷ []) 1 1 ∷
     -- 2: a slab rests on it; asked before 3
     replays S2 (2 ∷ 0 ∷ []) 2 1 ∷
+    replays S6 (2 ∷ 0 ∷ []) 2 1 ∷
     -- 3: it rests there; asked before 4
     replays S2 (1 ∷ 2 ∷ []) 3 1 ∷
     replays S2 (1 ∷ 0 ∷ 1 ∷ 0 ∷ []) 3 2 ∷
     -- 4: onto itself, or onto a slab that carries one
     replays S2 (1 ∷ 1 ∷ []) 4 1 ∷
     replays S4 (1 ∷ 0 ∷ 1 ∷ 4 ∷ []) 4 2 ∷
+    replays (grounds (2 ∷ 3 ∷ 0 ∷ 0 ∷ [])) (4 ∷ 2 ∷ []) 4 1 ∷
+    -- the first bad lift is named, and not one behind it
+    replays S4 (1 ∷ 0 ∷ 1 ∷ 4 ∷ 3 ∷ 2 ∷ []) 4 2 ∷
+    replays S2 (2 ∷ 0 ∷ 1 ∷ 1 ∷ []) 2 1 ∷
     -- 5: the end differs from the goal. "Replay of no lifts on S2: verdict 5, place 1."
     replays S2 [] 5 1 ∷
     replays S2 (1 ∷ 0 ∷ []) 5 2 ∷
+    -- by its support, and not by whether it is misplaced: 1 rests on 2, as it shall
+    replays S6 [] 5 2 ∷
+    -- at the end, and not on the way
+    replays S2 (1 ∷ 0 ∷ 2 ∷ 1 ∷ 2 ∷ 0 ∷ []) 5 2 ∷
+    -- "A list may be of any length"
+    replays S2 (1 ∷ 0 ∷ 1 ∷ 2 ∷ 1 ∷ 0 ∷ 1 ∷ 2 ∷ 1 ∷ 0 ∷ 2 ∷ 1 ∷ []) 0 0 ∷
     []
 
 -- Each refusal of the two lists with its place, and those of planning, the deadlock test and replay.
@@ -254,17 +316,23 @@ refusals =
     checks (plain (0 ∷ 0 ∷ []) (0 ∷ [])) 3 0 ∷
     checks (plain (2 ∷ 1 ∷ 5 ∷ []) (0 ∷ 0 ∷ [])) 3 0 ∷
     -- 4, 5 and 6 of the now list, whatever the goal list is
-    checks (plain (9 ∷ 9 ∷ 0 ∷ []) (0 ∷ 0 ∷ 0 ∷ [])) 4 1 ∷
+    checks (plain (8 ∷ 9 ∷ 7 ∷ 7 ∷ []) (0 ∷ 0 ∷ 0 ∷ 0 ∷ [])) 4 1 ∷
     checks (plain (2 ∷ 1 ∷ 5 ∷ []) (2 ∷ 1 ∷ 5 ∷ [])) 4 3 ∷
     checks (plain (0 ∷ 1 ∷ 1 ∷ 4 ∷ []) (0 ∷ 0 ∷ 0 ∷ 0 ∷ [])) 5 3 ∷
     checks (plain (0 ∷ 0 ∷ 1 ∷ 1 ∷ 1 ∷ []) (2 ∷ 1 ∷ 9 ∷ 0 ∷ 0 ∷ [])) 5 4 ∷
     checks (plain (0 ∷ 3 ∷ 2 ∷ []) (0 ∷ 1 ∷ 1 ∷ [])) 6 2 ∷
+    -- the lowest slab, wherever it rests; 6 before 7
+    checks (grounds (2 ∷ 2 ∷ 1 ∷ 1 ∷ 3 ∷ 3 ∷ [])) 5 2 ∷
+    checks (plain (2 ∷ 3 ∷ 1 ∷ []) (4 ∷ 0 ∷ 0 ∷ [])) 6 1 ∷
     -- 7, 8 and 9: the same three of the goal list
     checks (plain (0 ∷ 0 ∷ 0 ∷ 0 ∷ []) (2 ∷ 1 ∷ 0 ∷ 7 ∷ [])) 7 4 ∷
     checks (plain (0 ∷ 0 ∷ 0 ∷ []) (2 ∷ 1 ∷ 5 ∷ [])) 7 3 ∷
     checks (plain (0 ∷ 0 ∷ 0 ∷ 0 ∷ []) (4 ∷ 4 ∷ 0 ∷ 4 ∷ [])) 8 2 ∷
     checks (plain (0 ∷ 0 ∷ 0 ∷ 0 ∷ []) (0 ∷ 1 ∷ 1 ∷ 4 ∷ [])) 8 3 ∷
     checks (plain (0 ∷ 0 ∷ 0 ∷ []) (0 ∷ 3 ∷ 2 ∷ [])) 9 2 ∷
+    checks (plain (0 ∷ 0 ∷ 0 ∷ 0 ∷ []) (8 ∷ 9 ∷ 7 ∷ 7 ∷ [])) 7 1 ∷
+    checks (plain (0 ∷ 0 ∷ 0 ∷ 0 ∷ 0 ∷ 0 ∷ []) (2 ∷ 2 ∷ 1 ∷ 1 ∷ 3 ∷ 3 ∷ [])) 8 2 ∷
+    checks (plain (0 ∷ 0 ∷ 0 ∷ []) (2 ∷ 3 ∷ 1 ∷ [])) 9 1 ∷
     -- 1: the method, before all else
     refusesPlan S2 0 8 1 0 ∷
     refusesPlan (plain (2 ∷ 1 ∷ 5 ∷ []) []) 4 0 1 0 ∷
@@ -305,6 +373,10 @@ measured =
     checks (with (300 ∷ 200 ∷ []) (2 ∷ 0 ∷ []) (0 ∷ 1 ∷ [])) 17 1 ∷
     checks (with (100 ∷ 200 ∷ 100 ∷ 200 ∷ []) (0 ∷ 1 ∷ 0 ∷ 3 ∷ []) (2 ∷ 0 ∷ 4 ∷ 0 ∷ [])) 17 2 ∷
     checks (with (100 ∷ 200 ∷ 300 ∷ []) (0 ∷ 1 ∷ 2 ∷ []) (0 ∷ 1 ∷ 2 ∷ [])) 17 2 ∷
+    -- by what it rests on, and not by what that rests on: 1 is as long as 2, and longer than 3
+    checks (with (200 ∷ 200 ∷ 100 ∷ []) (2 ∷ 3 ∷ 0 ∷ []) (0 ∷ 0 ∷ 0 ∷ [])) 17 2 ∷
+    checks (with (200 ∷ 100 ∷ 300 ∷ []) (2 ∷ 3 ∷ 0 ∷ []) (0 ∷ 0 ∷ 0 ∷ [])) 17 1 ∷
+    checks (with (200 ∷ 200 ∷ 100 ∷ 100 ∷ []) (4 ∷ 3 ∷ 0 ∷ 0 ∷ []) (0 ∷ 0 ∷ 0 ∷ 0 ∷ [])) 17 1 ∷
     -- a centimetre is enough, at any length
     checks (with (201 ∷ 200 ∷ []) (2 ∷ 0 ∷ []) (0 ∷ 1 ∷ [])) 17 1 ∷
     checks (with (1 ∷ 0 ∷ []) (2 ∷ 0 ∷ []) (0 ∷ 1 ∷ [])) 17 1 ∷
@@ -316,6 +388,9 @@ measured =
     checks (with (200 ∷ 300 ∷ []) (2 ∷ 0 ∷ []) (0 ∷ 1 ∷ [])) 18 2 ∷
     checks (with (200 ∷ 100 ∷ 200 ∷ 100 ∷ []) (0 ∷ 1 ∷ 0 ∷ 3 ∷ []) (0 ∷ 0 ∷ 2 ∷ 3 ∷ [])) 18 3 ∷
     checks (with (200 ∷ 100 ∷ 200 ∷ 100 ∷ []) (0 ∷ 1 ∷ 0 ∷ 3 ∷ []) (2 ∷ 0 ∷ 4 ∷ 0 ∷ [])) 18 1 ∷
+    checks (with (200 ∷ 200 ∷ 100 ∷ []) (0 ∷ 0 ∷ 0 ∷ []) (2 ∷ 3 ∷ 0 ∷ [])) 18 2 ∷
+    checks (with (200 ∷ 100 ∷ 300 ∷ []) (0 ∷ 0 ∷ 0 ∷ []) (2 ∷ 3 ∷ 0 ∷ [])) 18 1 ∷
+    checks (with (200 ∷ 200 ∷ 100 ∷ 100 ∷ []) (0 ∷ 0 ∷ 0 ∷ 0 ∷ []) (4 ∷ 3 ∷ 0 ∷ 0 ∷ [])) 18 1 ∷
     -- S2 and S4 with lengths that are accepted: the lists without them
     gives (with (200 ∷ 200 ∷ []) (2 ∷ 0 ∷ []) (0 ∷ 1 ∷ [])) 2 (1 ∷ 0 ∷ 2 ∷ 1 ∷ []) ∷
     gives (with (100 ∷ 300 ∷ 100 ∷ 200 ∷ []) (2 ∷ 0 ∷ 4 ∷ 0 ∷ []) (4 ∷ 0 ∷ 2 ∷ 0 ∷ [])) 2 (1 ∷ 0 ∷ 3 ∷ 2 ∷ 1 ∷ 4 ∷ []) ∷
