@@ -1,4 +1,4 @@
--- Document 01's whole example, and eleven more, by computation. Assumes nothing.
+-- Document 01's whole example, and the others, by computation. Assumes nothing.
 use mathlib.Core.Path.{refl}
 use Rattle.lists.specs.Search.{lowest, count}
 use Rattle.blocks.specs.Tests.{load, clearᵇ, groundedᵇ, agreesᵇ, position, inPositionᵇ, misplacedᵇ, waitingᵇ, readyᵇ, perchedᵇ, misplacedCount}
@@ -28,6 +28,8 @@ examples =
       behind = refl;
       behind-goals = refl;
       equal = refl;
+      other-method = refl;
+      three-slabs = refl;
       overhangs-now = refl;
       overhangs-goal = refl;
       behind-lengths = refl;

@@ -1,6 +1,6 @@
--- Inputs with their answers by the definition: document 01's whole example, alone and with a tail, three in which the fields of a record differ, four with
--- lengths (document 02, Job 3), and three heads at the limits of the entries (document 02, Job 5). Statements alone; `proofs/Example.antt` proves them by
--- computation. Assumes nothing.
+-- Inputs with their answers by the definition: document 01's whole example, alone and with a tail, three in which the fields of a record differ, six with
+-- lengths (document 02, Job 3), of which two have a head whose fields differ, and three heads at the limits of the entries (document 02, Job 5). Statements
+-- alone; `proofs/Example.antt` proves them by computation. Assumes nothing.
 use Prim.Native.Nat.{ℕ}
 use mathlib.Core.Path.{_≡_}
 use mathlib.Core.List.{List, [], _∷_, _++_}
@@ -14,9 +14,12 @@ one h l x = h ∷ l ∷ 0 ∷ x ∷ []
 abbrev two : ℕ → ℕ → ℕ → ℕ → List ℕ
 two h l x y = h ∷ l ∷ 0 ∷ x ∷ 0 ∷ y ∷ []
 
--- S6 by method 2: three lifts, misplaced 2.
+-- S6 by method 2: three lifts, misplaced 2. Its records behind the head, and with head mark HD.
+abbrev s6Lists : List ℕ
+s6Lists = one 78 87 2 ++ (one 78 87 3 ++ (one 78 87 0 ++ (one 71 76 2 ++ (one 71 76 0 ++ one 71 76 0))))
+
 abbrev pub s6 : List ℕ
-s6 = two 72 68 3 2 ++ (one 78 87 2 ++ (one 78 87 3 ++ (one 78 87 0 ++ (one 71 76 2 ++ (one 71 76 0 ++ one 71 76 0)))))
+s6 = two 72 68 3 2 ++ s6Lists
 
 abbrev pub s6Lifts : List ℕ
 s6Lifts = two 80 76 3 2 ++ (two 76 70 1 0 ++ (two 76 70 2 0 ++ two 76 70 1 2))
@@ -29,9 +32,12 @@ firstOutside = two 72 68 3 2 ++ (one 78 87 2 ++ (one 78 87 1 ++ (one 78 87 5 ++ 
 abbrev pub tail : List ℕ
 tail = two 72 68 0 1 ++ (0 ∷ [])
 
--- S2 by method 2 with head mark HL and two lengths, as document 01's whole example without them.
+-- S2 by a method with head mark HL and two lengths; by method 2 document 01's whole example without them.
+abbrev measuredBy : ℕ → ℕ → ℕ → List ℕ
+measuredBy m a b = two 72 76 2 m ++ (one 78 87 2 ++ (one 78 87 0 ++ (one 71 76 0 ++ (one 71 76 1 ++ (one 76 78 a ++ one 76 78 b)))))
+
 abbrev pub measured : ℕ → ℕ → List ℕ
-measured a b = two 72 76 2 2 ++ (one 78 87 2 ++ (one 78 87 0 ++ (one 71 76 0 ++ (one 71 76 1 ++ (one 76 78 a ++ one 76 78 b)))))
+measured a b = measuredBy 2 a b
 
 -- A head alone, of method 2 and so many slabs, by the two bytes of their number.
 abbrev pub head : ℕ → ℕ → List ℕ
@@ -46,6 +52,9 @@ pub record Examples : Type 0 where
   pub behind-goals : responseTo (input ++ (0 ∷ [])) ≡ two 78 79 12 5
   -- equal lengths may rest on each other: the lifts are those without lengths
   pub equal : responseTo (measured 7 7) ≡ output
+  -- HL has HD's fields: S2 by method 3, whose lifts are those by method 2, and S6, three slabs, by method 2
+  pub other-method : responseTo (measuredBy 3 7 7) ≡ output
+  pub three-slabs : responseTo (two 72 76 3 2 ++ (s6Lists ++ (one 76 78 7 ++ (one 76 78 7 ++ one 76 78 7)))) ≡ s6Lifts
   -- slab 1 is too long for slab 2 now: number 17, place 1; slab 2 for slab 1 in the goal: number 18, place 2
   pub overhangs-now : responseTo (measured 8 7) ≡ two 78 79 17 1
   pub overhangs-goal : responseTo (measured 7 8) ≡ two 78 79 18 2

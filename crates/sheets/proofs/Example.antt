@@ -22,6 +22,10 @@ examples =
       long = refl;
       with-lengths = refl;
       lengths = refl;
+      other-method = refl;
+      three-slabs = refl;
+      other-method-plain = refl;
+      three-plain = refl;
       lengths-gone = refl;
       length-cut = refl;
     }

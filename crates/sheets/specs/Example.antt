@@ -13,6 +13,12 @@ use Rattle.sheets.specs.Sheets.{sheetAt, nowsRead, goalsRead, lengthsRea
 abbrev pub measured : List ℕ
 measured = set input 1 76 ++ (76 ∷ 78 ∷ 0 ∷ 5 ∷ 76 ∷ 78 ∷ 1 ∷ 44 ∷ [])
 
+-- S6 by method 2 with head mark HL, and lengths 5, 5 and 7.
+abbrev three : List ℕ
+three =
+    72 ∷ 76 ∷ 0 ∷ 3 ∷ 0 ∷ 2 ∷ 78 ∷ 87 ∷ 0 ∷ 2 ∷ 78 ∷ 87 ∷ 0 ∷ 3 ∷ 78 ∷ 87 ∷ 0 ∷ 0 ∷ 71 ∷ 76 ∷ 0 ∷ 2 ∷ 71 ∷ 76 ∷ 0 ∷ 0 ∷ 71 ∷ 76 ∷ 0 ∷ 0 ∷ 76 ∷ 78 ∷ 0 ∷ 5
+    ∷ 76 ∷ 78 ∷ 0 ∷ 5 ∷ 76 ∷ 78 ∷ 0 ∷ 7 ∷ []
+
 pub record Examples : Type 0 where
   -- two slabs by method 2, now 2 0, goal 0 1, in 22 bytes
   pub whole : sheetAt input 0 ≡ Whole 2 2 false 22
@@ -33,5 +39,10 @@ pub record Examples : Type 0 where
   -- with lengths, in 30 bytes; without the LN records, and without the last byte
   pub with-lengths : sheetAt measured 0 ≡ Whole 2 2 true 30
   pub lengths : lengthsRead measured 0 ≡ 5 ∷ 300 ∷ []
+  -- HL has HD's fields: two slabs by method 3, and three by method 2, with lengths in 42 bytes; without them, so by HD
+  pub other-method : sheetAt (set measured 5 3) 0 ≡ Whole 2 3 true 30
+  pub three-slabs : sheetAt three 0 ≡ Whole 3 2 true 42
+  pub other-method-plain : sheetAt (set input 5 3) 0 ≡ Whole 2 3 false 22
+  pub three-plain : sheetAt (set three 1 68) 0 ≡ Whole 3 2 false 30
   pub lengths-gone : sheetAt (take 22 measured) 0 ≡ Broken 2 5
   pub length-cut : sheetAt (take 29 measured) 0 ≡ Broken 2 6
