@@ -3,13 +3,16 @@
 The reading's counts are held to what document 001 states of them. Every number up to 6 slabs gives an arrangement of
 its own, and all of them that questions 4 to 6 accept. Above, numbers on both sides of every count that decides, and
 random ones; refusals at their edges and several at once; draws in a row; and the answers of tests/vectors/training.txt.
-The last line is 'N passed, M failed'.
+Of document 02, Job 7: how many counts the library holds, by the constants of crate `counts` that are lists and by the
+size of the functions. The last line is 'N passed, M failed'.
 """
 
 import argparse
 import faulthandler
 import math
 import random
+import re
+import subprocess
 import sys
 from collections.abc import Iterable, Iterator
 from pathlib import Path
@@ -24,6 +27,7 @@ from tested import ROOT, Test, counted, unlike
 
 TARGET = ROOT / "target"
 VECTORS = ROOT / "tests" / "vectors" / "training.txt"
+COUNTS = ROOT / "crates" / "counts" / "src"
 WHOLLY = 6
 RANDOM_NUMBERS = 300
 WAYS_THERE = 3
@@ -43,6 +47,16 @@ TABLE = [
     [394353, 1441729, 4596553, 12975561, 32989969, 76751233],
     [4596553, 17572114, 58941091, 175721140, 472630861, 1163391958],
 ]
+
+# The constants of crate `counts` that are lists: the counts whose n is even, and nothing beside them.
+LISTS = [("TABLE", "u64", "81")]
+LIST = re.compile(r"(?:const|static)(?: mut)? (\w+)\s*:\s*&?(?:'static )?\[\s*(\w+)\s*;\s*(\w+)\s*\]")
+
+# How many bytes `count_of` may have in the library, and all functions of training. They have 914 and 1,480 with half of
+# the counts, and had 1,782 and 2,348 with all of them.
+COUNT_OF_BYTES = 1_000
+TRAINING_BYTES = 1_600
+OF_TRAINING = re.compile(r"counts::|generator::|training::|topjeska::topjeska_training|topjeska_training")
 
 # How many arrangements some numbers of slabs have; document 001 states that of 30.
 ARRANGEMENTS = {3: 13, 16: 1290434218669921, 30: 197987401295571718915006598239796851}
@@ -113,6 +127,31 @@ def counts() -> Iterator[Test]:
         ks = range(MOST_TRAINED - n + 1)
         wrong = unlike([ways(n, k) for k in ks], [closed(n, k) for k in ks])
         yield f"the closed form for n = {n} and k up to {MOST_TRAINED - n}", wrong
+
+
+# ---- the counts that the library holds
+
+
+def lists_of(text: str) -> list[tuple[str, ...]]:
+    """The constants of a source that are lists: name, type and number of entries."""
+    return LIST.findall(re.sub(r"//.*", "", text))
+
+
+def above(found: int, most: int) -> str:
+    """By how much a number of bytes is too large; none at all is wrong too."""
+    return "" if 0 < found <= most else f"{found:,} bytes, of which {most:,} are the most"
+
+
+def held_counts(library: Path) -> Iterator[Test]:
+    """Document 02, Job 7: only the counts whose n is even are held, in the source and by the size of the functions."""
+    found = [one for source in sorted(COUNTS.glob("*.rt")) for one in lists_of(source.read_text(encoding="utf-8"))]
+    yield "one list of 81 counts is held", unlike(found, LISTS)
+    if library.suffix == ".a":
+        named = subprocess.run(["nm", "-S", library], capture_output=True, text=True, check=True).stdout
+        sizes = {words[3]: int(words[1], 16) for words in map(str.split, named.splitlines()) if len(words) == 4}
+        yield "the size of count_of with its table", above(sizes.get("counts::count_of", 0), COUNT_OF_BYTES)
+        training = sum(size for name, size in sizes.items() if OF_TRAINING.match(name))
+        yield "the size of all functions of training", above(training, TRAINING_BYTES)
 
 
 # ---- numbers
@@ -229,11 +268,12 @@ def main() -> int:
     path = parser.parse_args().library.resolve()
     if not path.exists():
         return counted([(str(path), "is missing; `rt staticlib topjeska` writes the usual one")])
+    held = held_counts(path)
     if path.suffix == ".a":
         path = shared_object(path, TARGET / "training")
     trainer, library = Trainer(path), Library(path, "topjeska")
     parts = (every_number(trainer, library), some_numbers(trainer), refusals(trainer), draws(trainer), sample(trainer))
-    return counted(test for part in (counts(), *parts) for test in part)
+    return counted(test for part in (counts(), held, *parts) for test in part)
 
 
 if __name__ == "__main__":
