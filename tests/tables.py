@@ -306,7 +306,7 @@ def of_rule(rule: Rule, tried: Tried) -> Found:
 
 
 def of_wrong(wrong: Wrong, tried: Tried) -> Found:
-    """What tells a wrong definition: another answer."""
+    """What tells a wrong definition: another answer, or none."""
     for claim in rows():
         claimed = answer(claim)[1]
         with wrong.read():

@@ -177,9 +177,6 @@ ties =
     gives (plain (4 ∷ 0 ∷ 2 ∷ 0 ∷ 1 ∷ 3 ∷ []) (0 ∷ 6 ∷ 4 ∷ 2 ∷ 1 ∷ 0 ∷ [])) 3 (6 ∷ 0 ∷ 3 ∷ 0 ∷ 2 ∷ 6 ∷ 5 ∷ 0 ∷ 1 ∷ 0 ∷ 4 ∷ 2 ∷ 3 ∷ 4 ∷ 5 ∷ 1 ∷ []) ∷
     gives (plain (3 ∷ 0 ∷ 2 ∷ 1 ∷ 7 ∷ 0 ∷ 0 ∷ []) (2 ∷ 0 ∷ 0 ∷ 3 ∷ 6 ∷ 7 ∷ 0 ∷ [])) 3 (4 ∷ 0 ∷ 1 ∷ 0 ∷ 3 ∷ 0 ∷ 1 ∷ 2 ∷ 4 ∷ 3 ∷ 5 ∷ 0 ∷ 6 ∷ 7 ∷ 5 ∷ 6 ∷ []) ∷
     gives (plain (0 ∷ 6 ∷ 7 ∷ 8 ∷ 9 ∷ 0 ∷ 0 ∷ 0 ∷ 0 ∷ []) (8 ∷ 7 ∷ 6 ∷ 9 ∷ 1 ∷ 0 ∷ 0 ∷ 0 ∷ 0 ∷ [])) 3 (4 ∷ 0 ∷ 1 ∷ 8 ∷ 5 ∷ 1 ∷ 4 ∷ 9 ∷ 2 ∷ 0 ∷ 3 ∷ 6 ∷ 2 ∷ 7 ∷ []) ∷
-    -- the successor is above c, and not above d, where both carry a slab
-    gives (plain (0 ∷ 0 ∷ 1 ∷ 2 ∷ []) (0 ∷ 1 ∷ 2 ∷ 3 ∷ [])) 3 (3 ∷ 0 ∷ 4 ∷ 0 ∷ 2 ∷ 1 ∷ 3 ∷ 2 ∷ 4 ∷ 3 ∷ []) ∷
-    shows (plain (0 ∷ 0 ∷ 1 ∷ 2 ∷ []) (0 ∷ 1 ∷ 2 ∷ 3 ∷ [])) (3 ∷ 1 ∷ 1 ∷ []) ∷
     -- and so are the rows of the deadlock test
     shows (plain (0 ∷ 0 ∷ 0 ∷ 2 ∷ 1 ∷ []) (0 ∷ 0 ∷ 1 ∷ 3 ∷ 2 ∷ [])) (4 ∷ 1 ∷ 1 ∷ 5 ∷ 2 ∷ 2 ∷ []) ∷
     shows (plain (3 ∷ 4 ∷ 5 ∷ 0 ∷ 0 ∷ []) (3 ∷ 5 ∷ 0 ∷ 0 ∷ 4 ∷ [])) (1 ∷ 3 ∷ 0 ∷ []) ∷
@@ -187,6 +184,9 @@ ties =
     shows (plain (2 ∷ 3 ∷ 0 ∷ 0 ∷ 0 ∷ []) (2 ∷ 5 ∷ 0 ∷ 0 ∷ 4 ∷ [])) (1 ∷ 2 ∷ 5 ∷ []) ∷
     -- and not what the block rests on in the goal: 5 and 3 lie between 1 and 4
     shows (plain (2 ∷ 3 ∷ 0 ∷ 0 ∷ 0 ∷ []) (5 ∷ 0 ∷ 4 ∷ 0 ∷ 3 ∷ [])) (1 ∷ 3 ∷ 4 ∷ []) ∷
+    -- the successor is above c, and not above d, where both carry a slab
+    gives (plain (0 ∷ 0 ∷ 1 ∷ 2 ∷ []) (0 ∷ 1 ∷ 2 ∷ 3 ∷ [])) 3 (3 ∷ 0 ∷ 4 ∷ 0 ∷ 2 ∷ 1 ∷ 3 ∷ 2 ∷ 4 ∷ 3 ∷ []) ∷
+    shows (plain (0 ∷ 0 ∷ 1 ∷ 2 ∷ []) (0 ∷ 1 ∷ 2 ∷ 3 ∷ [])) (3 ∷ 1 ∷ 1 ∷ []) ∷
     -- c or d is in the way, and not another slab that is beneath both: 5 beneath 4; 2 between 1 and 3
     shows (plain (2 ∷ 0 ∷ 4 ∷ 5 ∷ 0 ∷ []) (4 ∷ 0 ∷ 2 ∷ 5 ∷ 0 ∷ [])) (1 ∷ 4 ∷ 4 ∷ 3 ∷ 2 ∷ 2 ∷ []) ∷
     shows (plain (2 ∷ 3 ∷ 4 ∷ 0 ∷ 0 ∷ []) (2 ∷ 3 ∷ 5 ∷ 0 ∷ 0 ∷ [])) (1 ∷ 3 ∷ 5 ∷ []) ∷
