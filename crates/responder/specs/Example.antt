@@ -1,6 +1,6 @@
--- Inputs with their answers by the definition: document 01's whole example, alone and with a tail, three in which the fields of a record differ, six with
--- lengths (document 02, Job 3), of which two have a head whose fields differ, and three heads at the limits of the entries (document 02, Job 5). Statements
--- alone; `proofs/Example.antt` proves them by computation. Assumes nothing.
+-- Inputs with their answers by the definition: document 01's whole example, alone and with a tail, others in which the fields of a record differ, some with
+-- lengths (document 02, Job 3), also of three slabs, and three heads at the limits of the entries (document 02, Job 5). Statements alone;
+-- `proofs/Example.antt` proves them by computation. Assumes nothing.
 use Prim.Native.Nat.{ℕ}
 use mathlib.Core.Path.{_≡_}
 use mathlib.Core.List.{List, [], _∷_, _++_}
@@ -20,6 +20,10 @@ s6Lists = one 78 87 2 ++ (one 78 87 3 ++ (one 78 87 0 ++ (one 71 76 2 ++ (one 71
 
 abbrev pub s6 : List ℕ
 s6 = two 72 68 3 2 ++ s6Lists
+
+-- With head mark HL and equal lengths.
+abbrev pub s6Measured : List ℕ
+s6Measured = two 72 76 3 2 ++ (s6Lists ++ (one 76 78 7 ++ (one 76 78 7 ++ one 76 78 7)))
 
 abbrev pub s6Lifts : List ℕ
 s6Lifts = two 80 76 3 2 ++ (two 76 70 1 0 ++ (two 76 70 2 0 ++ two 76 70 1 2))
@@ -54,12 +58,15 @@ pub record Examples : Type 0 where
   pub equal : responseTo (measured 7 7) ≡ output
   -- HL has HD's fields: S2 by method 3, whose lifts are those by method 2, and S6, three slabs, by method 2
   pub other-method : responseTo (measuredBy 3 7 7) ≡ output
-  pub three-slabs : responseTo (two 72 76 3 2 ++ (s6Lists ++ (one 76 78 7 ++ (one 76 78 7 ++ one 76 78 7)))) ≡ s6Lifts
+  pub three-slabs : responseTo s6Measured ≡ s6Lifts
   -- slab 1 is too long for slab 2 now: number 17, place 1; slab 2 for slab 1 in the goal: number 18, place 2
   pub overhangs-now : responseTo (measured 8 7) ≡ two 78 79 17 1
   pub overhangs-goal : responseTo (measured 7 8) ≡ two 78 79 18 2
   -- a byte after the last LN record: number 12, place 3 × 2 + 1
   pub behind-lengths : responseTo (measured 7 7 ++ (0 ∷ [])) ≡ two 78 79 12 7
+  -- behind three slabs' lists and lengths: places 2 × 3 + 1 and 3 × 3 + 1
+  pub behind-three : responseTo (s6 ++ (0 ∷ [])) ≡ two 78 79 12 7
+  pub behind-three-lengths : responseTo (s6Measured ++ (0 ∷ [])) ≡ two 78 79 12 10
   -- the program is the yard office's: of 601 and of 4,000 slabs the next record is missing, number 12, place 1; 4,001 are too many, number 2
   pub beyond-panel : responseTo (head 2 89) ≡ two 78 79 12 1
   pub most-slabs : responseTo (head 15 160) ≡ two 78 79 12 1

@@ -28,4 +28,7 @@ examples =
       three-plain = refl;
       lengths-gone = refl;
       length-cut = refl;
+      three-cut = refl;
+      three-lengths-gone = refl;
+      three-goals-gone = refl;
     }

@@ -46,3 +46,7 @@ pub record Examples : Type 0 where
   pub three-plain : sheetAt (set three 1 68) 0 ≡ Whole 3 2 false 30
   pub lengths-gone : sheetAt (take 22 measured) 0 ≡ Broken 2 5
   pub length-cut : sheetAt (take 29 measured) 0 ≡ Broken 2 6
+  -- of three slabs without the last byte, without the LN records, and with one GL record: nine, seven and five records stand before
+  pub three-cut : sheetAt (take 41 three) 0 ≡ Broken 2 9
+  pub three-lengths-gone : sheetAt (take 30 three) 0 ≡ Broken 2 7
+  pub three-goals-gone : sheetAt (take 22 three) 0 ≡ Broken 2 5
