@@ -11,7 +11,7 @@ from typing import Any, NamedTuple
 from unittest import mock
 
 import reading
-from reading import MOST, Lengths, Pair, Row, Yard, beneath, clear
+from reading import METHODS, MOST, Lengths, Pair, Row, Yard, beneath, clear
 from ties import perched, pile, ready, waiting
 
 PLANS = ("plan 1", "plan 2", "plan 3")
@@ -23,13 +23,8 @@ Instead = dict[str, Callable[..., Any]]
 # The reading's own, which others are made from.
 LIFTED, ROW, VISITS, FOOT, MISPLACED = reading.lifted, reading.row, reading.visits, reading.foot, reading.misplaced
 CONSTRUCTIVE, READY, POSITION = reading.constructive, reading.is_constructive, reading.position
-FAULT, CHECK, PLAN, DEADLOCK, REPLAY = (
-    reading.lift_fault,
-    reading.check,
-    reading.plan,
-    reading.deadlock,
-    reading.replay,
-)
+FAULT, CHECK, PLAN, DEADLOCK = reading.lift_fault, reading.check, reading.plan, reading.deadlock
+REPLAY, METHOD_GN = reading.replay, reading.method_gn
 
 
 class Wrong(NamedTuple):
@@ -241,6 +236,20 @@ def in_order(order: Sequence[int]) -> Instead:
     return judged(fault)
 
 
+def yielding(first: int, other: int) -> Instead:
+    """A verdict yields to a later one that could be given too; of a slab that is none only "onto itself" could."""
+
+    def fault(yard: Yard, slab: int, to: int, lengths: Lengths) -> int:
+        given = FAULT(yard, slab, to, lengths)
+        if given != first:
+            return given
+        there = 1 <= slab <= len(yard) and to <= len(yard)
+        tests = tests_of(yard, slab, to, lengths) if there else {4: slab == to}
+        return other if tests.get(other) else given
+
+    return judged(fault)
+
+
 def unless(verdict: int, may: Callable[[Yard, int, int], bool]) -> Instead:
     """A verdict is not given in some cases, and the tests behind it go on."""
 
@@ -338,6 +347,30 @@ def end_place(of: Callable[[Yard, Yard, Sequence[int]], int]) -> Instead:
     )
 
 
+def preferred(of: Callable[[Yard, Yard, Sequence[int], int], int]) -> Instead:
+    """The place of verdict 5 by something else first: by the yard at the end, the goal, the list and the slab."""
+    return end_place(
+        lambda end, goal, lifts: min(differing(end, goal), key=lambda slab: (of(end, goal, lifts, slab), slab))
+    )
+
+
+KINDS: dict[str, Callable[[Yard, Yard, Sequence[int], int], int]] = {
+    "on the ground": lambda end, goal, lifts, slab: end[slab - 1] != 0,
+    "that go to the ground": lambda end, goal, lifts, slab: goal[slab - 1] != 0,
+    "that are lifted": lambda end, goal, lifts, slab: slab not in lifts[::2],
+    "that are clear": lambda end, goal, lifts, slab: not clear(end, slab),
+    "that are to be clear": lambda end, goal, lifts, slab: not clear(goal, slab),
+    "that lie lowest": lambda end, goal, lifts, slab: len(pile(end, slab)),
+    "that go lowest": lambda end, goal, lifts, slab: len(pile(goal, slab)),
+    "with the lowest entry": lambda end, goal, lifts, slab: end[slab - 1],
+    "with the lowest goal entry": lambda end, goal, lifts, slab: goal[slab - 1],
+    "whose goal support is clear": lambda end, goal, lifts, slab: not clear(end, goal[slab - 1]),
+    "whose goal support rests where it shall": lambda end, goal, lifts, slab: (
+        goal[slab - 1] != 0 and not agrees(end, goal, goal[slab - 1])
+    ),
+}
+
+
 def last_bad(now: Yard, goal: Yard, lifts: Sequence[int], lengths: Lengths, said: Pair) -> Pair:
     """The last bad lift in the place of the first."""
     return [said, *((fault, k) for k, fault, _ in followed(now, lifts, lengths) if fault)][-1]
@@ -399,6 +432,13 @@ def of_replay() -> Iterator[Wrong]:
     for order in itertools.permutations((2, 3, 4, 6)):
         if order != (2, 3, 4, 6):
             yield Wrong(f"replay tests 1, then {', '.join(map(str, order))}", ["replay"], in_order(order))
+    for first, other in itertools.combinations((1, 2, 3, 4, 6), 2):
+        if (first, other) not in ((1, 2), (1, 3), (1, 6)):
+            yield Wrong(f"replay: {first} yields to {other}", ["replay"], yielding(first, other))
+    for what, kind in KINDS.items():
+        yield Wrong(f"replay: of those that differ, slabs {what} first", ["replay"], preferred(kind))
+        last = preferred(lambda end, goal, lifts, slab, of=kind: -of(end, goal, lifts, slab))
+        yield Wrong(f"replay: of those that differ, slabs {what} last", ["replay"], last)
     for what, (verdict, may) in LAX.items():
         yield Wrong(f"replay: {what}", ["replay"], unless(verdict, may))
     for what, fault in ONES.items():
@@ -473,6 +513,16 @@ def orders() -> Iterator[Sequence[int]]:
     yield from sorted(found - {ORDER})
 
 
+def giving_way(first: int, other: int) -> Instead:
+    """A question yields to a later one to which the answer would be no too."""
+
+    def change(now: Yard, goal: Yard, lengths: Lengths, number: int, place: int) -> Pair:
+        slabs = faults(now, goal, lengths).get(other) if number == first else None
+        return (other, slabs[0]) if slabs else (number, place)
+
+    return checked(change)
+
+
 def placed(number: int, of: Callable[[Sequence[int], Sequence[int]], int]) -> Instead:
     """Another place of a number, by the list that it is about and the slabs that have the fault."""
 
@@ -494,7 +544,24 @@ PLACES: dict[str, Callable[[Sequence[int], Sequence[int]], int]] = {
     "the first slab with that entry": lambda yard, slabs: yard.index(yard[slabs[0] - 1]) + 1,
     "the slab with the lowest entry": lambda yard, slabs: min(slabs, key=lambda slab: yard[slab - 1]),
     "the slab with the highest entry": lambda yard, slabs: max(slabs, key=lambda slab: yard[slab - 1]),
+    "a slab on which none rests": lambda yard, slabs: min(slabs, key=lambda slab: slab in yard),
+    "a slab on which one rests": lambda yard, slabs: min(slabs, key=lambda slab: slab not in yard),
+    "a slab that rests on itself": lambda yard, slabs: min(slabs, key=lambda slab: yard[slab - 1] != slab),
+    "a slab that does not rest on itself": lambda yard, slabs: min(slabs, key=lambda slab: yard[slab - 1] == slab),
+    "a slab that rests on a lower number": lambda yard, slabs: min(slabs, key=lambda slab: yard[slab - 1] > slab),
+    "a slab that rests on a higher number": lambda yard, slabs: min(slabs, key=lambda slab: yard[slab - 1] < slab),
+    "the slab that lies lowest": lambda yard, slabs: min(slabs, key=lambda slab: depth(yard, slab)),
+    "the slab that lies highest": lambda yard, slabs: max(slabs, key=lambda slab: depth(yard, slab)),
 }
+
+
+def depth(yard: Sequence[int], slab: int) -> int:
+    """How many steps a slab is above the ground; no more are counted than there are slabs."""
+    steps = 0
+    while 1 <= slab <= len(yard) and steps <= len(yard):
+        slab, steps = yard[slab - 1], steps + 1
+    return steps
+
 
 
 def overhanging(of: Callable[[Sequence[int], Yard, int, int], bool]) -> Instead:
@@ -539,13 +606,41 @@ HANGS: dict[str, Callable[[Sequence[int], Yard, int, int], bool]] = {
 }
 
 
+def spaced(needed: Callable[[int, int], bool]) -> tuple[Instead, Instead]:
+    """Which lent space is enough, by what is needed and lent: of planning, and of the deadlock test."""
+
+    def plan(method: int, now: Yard, goal: Yard, space: int, *rest: Any) -> tuple[Any, ...]:
+        found = PLAN(method, now, goal, reading.plan_space(len(now)), *rest)
+        return found if found[0] or needed(reading.plan_space(len(now)), space) else (10, 0, 0, 0, [])
+
+    def deadlock(now: Yard, goal: Yard, space: int, lengths: Lengths = None) -> tuple[Any, ...]:
+        found = DEADLOCK(now, goal, reading.deadlock_space(len(now)), lengths)
+        return found if found[0] or needed(reading.deadlock_space(len(now)), space) else (10, 0, 0, [])
+
+    return {"plan": plan}, {"deadlock": deadlock}
+
+
+SPACES: dict[str, Callable[[int, int], bool]] = {
+    "just so much": lambda needed, lent: lent == needed,
+    "one number more": lambda needed, lent: lent > needed,
+    "any": lambda needed, lent: True,
+    "one number less": lambda needed, lent: lent + 1 >= needed,
+}
+
+
 def of_questions() -> Iterator[Wrong]:
     """Wrong readings of the questions."""
     for order in orders():
         yield Wrong(f"the questions are asked {', '.join(map(str, order))}", ["check"], asked(order))
+    for first, other in itertools.combinations(ORDER, 2):
+        yield Wrong(f"question {first} yields to {other}", ["check"], giving_way(first, other))
     for number, (what, place) in itertools.product(ORDER, PLACES.items()):
         if number != 16:
             yield Wrong(f"the place of {number}: {what}", ["check"], placed(number, place))
+    for what, enough in SPACES.items():
+        plan, deadlock = spaced(enough)
+        yield Wrong(f"planning's space: {what}", PLANS, plan)
+        yield Wrong(f"the deadlock test's space: {what}", ["deadlock"], deadlock)
     for what, overhangs in HANGS.items():
         yield Wrong(f"a slab overhangs {what}", ["check"], overhanging(overhangs))
 
@@ -717,6 +812,83 @@ STEPS: dict[str, tuple[int, Step]] = {
 }
 
 
+def remembered(choose: Callable[[list[int], Yard, Yard], int]) -> Callable[[int], Callable[..., list[Pair]]]:
+    """Methods that keep the slabs with a constructive lift in the order in which they got it, and choose from these."""
+
+    def of(method: int) -> Callable[..., list[Pair]]:
+        def lists(now: Yard, goal: Yard, lengths: Lengths = None) -> list[Pair]:
+            pairs: list[Pair] = []
+            kept: list[int] = []
+            while MISPLACED(now, goal):
+                loose, can = perched(now, goal), ready(now, goal)
+                kept = [slab for slab in kept if slab in can]
+                kept += [slab for slab in can if slab not in kept]
+                if method == 1 and loose and all(to == 0 for _, to in pairs) or not can:
+                    lift = (min(reading.loop(now, goal)) if method == 3 else loose[0], 0)
+                else:
+                    slab = choose(kept, now, goal)
+                    lift = (slab, goal[slab - 1])
+                pairs.append(lift)
+                now = reading.lifted(now, *lift)
+            return pairs
+
+        return lists
+
+    return of
+
+
+MEMORIES = {
+    "makes first the lift that was there first": remembered(lambda kept, now, goal: kept[0]),
+    "makes first the lift that came last": remembered(lambda kept, now, goal: kept[-1]),
+}
+
+
+def in_rounds(method: int) -> Callable[..., list[Pair]]:
+    """A method that makes all constructive lifts that there are before it looks for others."""
+
+    def lists(now: Yard, goal: Yard, lengths: Lengths = None) -> list[Pair]:
+        pairs: list[Pair] = []
+        while method == 1 and perched(now, goal):
+            pairs.append((perched(now, goal)[0], 0))
+            now = reading.lifted(now, *pairs[-1])
+        while MISPLACED(now, goal):
+            found = [(slab, goal[slab - 1]) for slab in ready(now, goal)]
+            if not found:
+                found = [(min(reading.loop(now, goal)) if method == 3 else perched(now, goal)[0], 0)]
+            for lift in found:
+                now = reading.lifted(now, *lift)
+            pairs += found
+        return pairs
+
+    return lists
+
+
+def keeps_start(now: Yard, goal: Yard, lengths: Lengths = None) -> list[Pair]:
+    """Method 3 with a walk that begins where the last one did while that slab still waits."""
+    pairs: list[Pair] = []
+    start = 0
+    while MISPLACED(now, goal):
+        if slab := CONSTRUCTIVE(now, goal):
+            lift = (slab, goal[slab - 1])
+        else:
+            start = start if start in waiting(now, goal) else waiting(now, goal)[0]
+            lift = (min(VISITS(now, goal, start)[1]), 0)
+        pairs.append(lift)
+        now = reading.lifted(now, *lift)
+    return pairs
+
+
+def in_place_of(method: int, lists: Callable[..., list[Pair]]) -> Instead:
+    """A method's lists in the place of the reading's."""
+    if method == 1:
+        return {"method_us": lists}
+
+    def other(m: int, now: Yard, goal: Yard, lengths: Lengths = None) -> list[Pair] | None:
+        return lists(now, goal) if m == method else METHOD_GN(m, now, goal, lengths)
+
+    return {"method_gn": other}
+
+
 def of_methods() -> Iterator[Wrong]:
     """Wrong readings of position, of constructive lifts, of the count and of the methods."""
     everything = (*PLANS, "deadlock")
@@ -728,12 +900,13 @@ def of_methods() -> Iterator[Wrong]:
     for what, count in COUNTS.items():
         yield Wrong(f"counted: the misplaced slabs {what}", PLANS, counting(count))
     for what, (method, step) in STEPS.items():
-        steps, gn = stepwise(step), reading.method_gn
-
-        def other(m: int, now: Yard, goal: Yard, lengths: Lengths = None, of: Any = (method, steps, gn)) -> Any:
-            return of[1](now, goal) if m == of[0] else of[2](m, now, goal, lengths)
-
-        yield Wrong(f"method {method} {what}", PLANS, {"method_us": steps} if method == 1 else {"method_gn": other})
+        yield Wrong(f"method {method} {what}", [f"plan {method}"], in_place_of(method, stepwise(step)))
+    for method in METHODS:
+        for what, made in MEMORIES.items():
+            yield Wrong(f"method {method} {what}", [f"plan {method}"], in_place_of(method, made(method)))
+        rounds = in_place_of(method, in_rounds(method))
+        yield Wrong(f"method {method} makes lifts in rounds", [f"plan {method}"], rounds)
+    yield Wrong("method 3 keeps the start of its walk", ["plan 3"], in_place_of(3, keeps_start))
 
 
 def wrongs() -> Iterator[Wrong]:

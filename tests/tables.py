@@ -1,11 +1,11 @@
-"""What the proved tables of crates/blocks/specs/Sheets.antt tell apart from documents 01 and 02, and what they do not.
+"""What the proved tables of crates `blocks` and `rivals` tell apart from documents 01 and 02, and what they do not.
 
 Each row is held to the reading (reading.py). Then come readings that are wrong in one thing: a tie that is broken by
 another rule (ties.py), or a definition that is another one (misread.py). A row tells such a reading where the reading
-does not answer what the row says. One that no row tells is looked for on all sheets of three and four slabs and on
-random ones up to eight, on lists of lifts for these and on lists with faults; where it differs there, a row is missing,
-and that is a failure. The others are the same on all that was tried: how many there are is printed, and with --same
-which; --times N tries more or fewer. The last line is 'N passed, M failed'.
+answers something else than the row says. One that no row tells is looked for on sheets of three and four slabs, with
+--all on each of them, and on random ones up to eight, on lists of lifts for these and on lists with faults; where it
+differs there, a row is missing, and that is a failure. The others are the same on all that was tried, or come to no
+answer: how many there are is printed, and with --same which. The last line is 'N passed, M failed'.
 """
 
 import argparse
@@ -15,22 +15,23 @@ import re
 import sys
 from collections import defaultdict
 from collections.abc import Callable, Iterable, Iterator, Sequence
-from functools import cache, cached_property
+from functools import cache, cached_property, lru_cache
 from typing import Any, NamedTuple
 
 import reading
 import sheets
 from misread import Wrong, wrongs
-from reading import METHODS, MOST, MOST_PANEL, NO_VERDICT, WIDTH, Lengths, Pair, Yard
+from reading import METHODS, MOST, MOST_PANEL, NO_VERDICT, WIDTH, Lengths, Pair, Row, Yard
 from tested import ROOT, Test, counted, sheet_line, unlike
-from ties import Decision, Rule, decisions, rules
+from ties import Decision, Rule, decisions, rules, values
 
-TABLES = ROOT / "crates" / "blocks" / "specs" / "Sheets.antt"
+TABLES = (ROOT / "crates/blocks/specs/Sheets.antt", ROOT / "crates/rivals/specs/Rivals.antt")
 WHOLLY = (3, 4)
 RANDOM_TO = 8
-TIMES = 200
-LISTS = 20
-FAULTS = 40
+TENTH = 10
+FEW, MANY = 20, 200
+LISTS = 100
+FAULTS = 200
 
 # ---- the tables as they are written
 
@@ -80,16 +81,16 @@ def applied(parts: Sequence[Any]) -> Any:
     return MADE[first](*rest) if first in MADE else Claim(first, rest[0], rest[1:])
 
 
-def value(words: Iterator[str], known: dict[str, Any]) -> Any:
+def meant(words: Iterator[str], known: dict[str, Any]) -> Any:
     """What an expression of the tables stands for, up to the bracket or the end that closes it."""
     parts: list[Any] = []
     for word in words:
         if word == ")":
             break
         if word == "∷":
-            return [applied(parts), *value(words, known)]
+            return [applied(parts), *meant(words, known)]
         if word == "(":
-            parts.append(value(words, known))
+            parts.append(meant(words, known))
         else:
             parts.append(int(word) if word.isdigit() else known.get(word, word))
     return applied(parts)
@@ -98,11 +99,12 @@ def value(words: Iterator[str], known: dict[str, Any]) -> Any:
 @cache
 def tables() -> dict[str, list[Claim]]:
     """The tables by their names."""
-    text = re.sub(r"\n *--.*| *--.*", "", TABLES.read_text(encoding="utf-8")) + "\n\n"
+    text = "".join(path.read_text(encoding="utf-8") + "\n\n" for path in TABLES)
+    text = re.sub(r"\n *--.*| *--.*", "", text)
     known: dict[str, Any] = {"[]": [], "true": True, "false": False}
     found: dict[str, list[Claim]] = {}
     for name, kind, body in DEFINED.findall(text):
-        known[name] = value(iter(WORD.findall(body)), known)
+        known[name] = meant(iter(WORD.findall(body)), known)
         if kind == "List Claim":
             found[name] = known[name]
     return found
@@ -122,8 +124,13 @@ def flat(pairs: Iterable[Sequence[int]]) -> list[int]:
 
 
 def planned(sheet: Written, method: int) -> tuple[int, int, int, int, list[Pair]]:
-    """Planning with just the space that it needs."""
-    return reading.plan(method, sheet.now, sheet.goal, reading.plan_space(len(sheet.now)), sheet.lengths)
+    """Planning with a number more than it needs, as the rows lend it."""
+    return reading.plan(method, sheet.now, sheet.goal, reading.plan_space(len(sheet.now)) + 1, sheet.lengths)
+
+
+def tested(sheet: Written) -> tuple[int, int, int, list[Row]]:
+    """The deadlock test, likewise."""
+    return reading.deadlock(sheet.now, sheet.goal, reading.deadlock_space(len(sheet.now)) + 1, sheet.lengths)
 
 
 def answer(claim: Claim) -> tuple[object, object]:
@@ -139,7 +146,7 @@ def answer(claim: Claim) -> tuple[object, object]:
         case "misplaces", [slabs]:
             return planned(sheet, 1)[::3][:2], (0, slabs)
         case "shows", [numbers]:
-            number, _, count, found = reading.deadlock(now, goal, reading.deadlock_space(len(now)), lengths)
+            number, _, count, found = tested(sheet)
             return (number, count, flat(found)), (0, len(numbers) // WIDTH, numbers)
         case "needs", [lifts]:
             return reading.shortest(now, goal, lengths), lifts
@@ -157,6 +164,21 @@ def answer(claim: Claim) -> tuple[object, object]:
         case "refusesReplay", [lifts, number, place]:
             return reading.replay(now, goal, lifts, lengths), (number, NO_VERDICT, place)
     raise ValueError(f"no such claim: {claim}")
+
+
+def operations(claim: Claim) -> set[str]:
+    """The operations that a row is about; a refusal is about the check too."""
+    refused = {"check"} if claim.kind.startswith("refuses") else set()
+    match claim.kind:
+        case "gives" | "takes" | "refusesPlan" | "refusesPanel":
+            return {f"plan {claim.rest[0]}"} | refused
+        case "shows" | "refusesDeadlock":
+            return {"deadlock"} | refused
+        case "replays" | "refusesReplay":
+            return {"replay"} | refused
+        case "checks":
+            return {"check"}
+    return {"plan 1"}
 
 
 # ---- what a wrong reading is tried on
@@ -192,18 +214,22 @@ Asked = Callable[[], object]
 
 
 class Tried:
-    """Sheets, lists of lifts and lists with faults; of random sheets so many times one of each size and kind."""
+    """Sheets, lists of lifts and lists with faults.
 
-    def __init__(self, times: int) -> None:
-        """The same ones for the same number."""
-        self.times = times
+    Of random sheets so many times one of each size and kind; of the sheets of four slabs each, or one in so many.
+    """
+
+    def __init__(self, times: int, one_in: int) -> None:
+        """The same ones for the same numbers."""
+        self.times, self.one_in = times, one_in
         self.answers: dict[str, list[object]] = {}
 
     @cached_property
     def accepted(self) -> list[Written]:
-        """All sheets of three and four slabs, and random ones of five to eight, of three kinds and rings."""
+        """The sheets of three and four slabs, and random ones of five to eight, of three kinds and rings."""
         rng = random.Random(sheets.SEED)
-        found = [pair for n in WHOLLY for pair in itertools.product(sheets.arrangements(n), repeat=2)]
+        three, four = (list(itertools.product(sheets.arrangements(n), repeat=2)) for n in WHOLLY)
+        found = three + four[:: self.one_in]
         for n, _ in itertools.product(range(max(WHOLLY) + 1, RANDOM_TO + 1), range(self.times)):
             found += [sheets.random_sheet(rng, n, kind) for kind in range(3)]
             found.append(sheets.renumbered(rng, *sheets.ring(n)[:2]))
@@ -238,6 +264,11 @@ class Tried:
                     found[point].append((sheet, decision))
         return found
 
+    @lru_cache(maxsize=1)
+    def by_key(self, point: str, key: str) -> list[list[int]]:
+        """What the slabs of the choices at a point have of a key."""
+        return [values(key, decision) for _, decision in self.chosen[point]]
+
     def asked(self, operation: str) -> Iterator[tuple[object, Asked]]:
         """What an operation is asked, and how it answers."""
         if operation == "replay":
@@ -248,7 +279,7 @@ class Tried:
                 yield sheet, lambda s=sheet: reading.check(*s)
         elif operation == "deadlock":
             for sheet in self.accepted:
-                yield sheet, lambda s=sheet: reading.deadlock(s.now, s.goal, reading.deadlock_space(len(s.now)))
+                yield sheet, lambda s=sheet: tested(s)
         else:
             for sheet in self.accepted:
                 yield sheet, lambda s=sheet, m=int(operation[-1]): planned(s, m)
@@ -261,11 +292,11 @@ class Tried:
 
 
 def answered(ask: Asked) -> object:
-    """An answer, or what a wrong reading comes to where it has none."""
+    """An answer; None where a wrong reading comes to none."""
     try:
         return ask()
-    except (ValueError, IndexError, StopIteration) as fault:
-        return type(fault).__name__
+    except (ValueError, IndexError, StopIteration):
+        return None
 
 
 # ---- what is told
@@ -300,24 +331,29 @@ def settled() -> dict[str, list[tuple[Claim, Decision]]]:
 def of_rule(rule: Rule, tried: Tried) -> Found:
     """What tells a rule for ties: a choice by which the list, or the loop that is shown, becomes another."""
     for claim, decision in settled()[rule.point]:
-        if rule.differs(decision):
+        if rule.differs(decision, values(rule.key, decision)):
             return Found(row=str(claim))
-    return Found(elsewhere=next((str(sheet) for sheet, choice in tried.chosen[rule.point] if rule.differs(choice)), ""))
+    for (sheet, decision), by in zip(tried.chosen[rule.point], tried.by_key(rule.point, rule.key)):
+        if rule.differs(decision, by):
+            return Found(elsewhere=str(sheet))
+    return Found()
 
 
 def of_wrong(wrong: Wrong, tried: Tried) -> Found:
-    """What tells a wrong definition: another answer, or none."""
+    """What tells a wrong definition: another answer of an operation that it can change."""
     for claim in rows():
+        if operations(claim).isdisjoint(wrong.operations):
+            continue
         claimed = answer(claim)[1]
         with wrong.read():
             said = answered(lambda row=claim: answer(row)[0])
-        if said != claimed:
+        if said not in (claimed, None):
             return Found(row=str(claim))
     for operation in wrong.operations:
         for (what, ask), right in zip(tried.asked(operation), tried.right(operation)):
             with wrong.read():
                 said = answered(ask)
-            if said != right:
+            if said not in (right, None):
                 return Found(elsewhere=f"{operation}: {what}")
     return Found()
 
@@ -339,10 +375,10 @@ def tests(tried: Tried, name_same: bool) -> Iterator[Test]:
 def main() -> int:
     """Runs the tests."""
     parser = argparse.ArgumentParser(description=__doc__.splitlines()[0])
-    parser.add_argument("--times", type=int, default=TIMES, help="random sheets of each size and kind")
+    parser.add_argument("--all", action="store_true", help="try all sheets of four slabs, and ten times as many others")
     parser.add_argument("--same", action="store_true", help="name those that are the same on all that was tried")
     options = parser.parse_args()
-    return counted(tests(Tried(options.times), options.same))
+    return counted(tests(Tried(MANY, 1) if options.all else Tried(FEW, TENTH), options.same))
 
 
 if __name__ == "__main__":

@@ -1,7 +1,8 @@
 """Ties: what there is to choose from on the way of the methods and of the deadlock test, and other rules to choose by.
 
-Document 01 takes the lowest number at each of these points. Another rule goes by something else first: by what a slab
-rests on or goes onto, by its pile, by what is right, clear or in the way, or by what was lifted before.
+Document 01 takes the lowest number at each of these points. Another rule goes by something else first: by a slab that
+belongs to the one that is chosen, as what it rests on, and what is said of that, as whether it is clear; by two such
+slabs beside each other; by piles and loops, by what the lift leads to, or by what was lifted before.
 """
 
 import itertools
@@ -108,19 +109,19 @@ def pile(yard: Yard, slab: int) -> list[int]:
     return [*reversed(reading.beneath(yard, slab)), slab]
 
 
-def whole_pile(yard: Yard, slab: int) -> list[int]:
-    """All slabs of a slab's pile."""
-    return pile(yard, reading.top(yard, slab))
+def above(yard: Yard, slab: int) -> int:
+    """How many slabs are above a slab."""
+    return len(pile(yard, reading.top(yard, slab))) - len(pile(yard, slab))
 
 
-def support(place: Place, slab: int) -> int:
-    """What a slab rests on now."""
-    return place.now[slab - 1]
+def on(yard: Yard, slab: int) -> int:
+    """What a slab rests on; of the ground the ground."""
+    return yard[slab - 1] if slab else 0
 
 
-def wished(place: Place, slab: int) -> int:
-    """What a slab rests on in the goal."""
-    return place.goal[slab - 1]
+def load(yard: Yard, slab: int) -> int:
+    """What rests on a slab; 0 for nothing, and of the ground."""
+    return yard.index(slab) + 1 if slab and slab in yard else 0
 
 
 def right(place: Place, slab: int) -> bool:
@@ -128,36 +129,9 @@ def right(place: Place, slab: int) -> bool:
     return slab == 0 or reading.in_position(place.now, place.goal, slab)
 
 
-def c_of(place: Place, slab: int) -> int:
-    """c of a misplaced slab."""
-    return reading.foot(place.now, place.goal, slab)[0]
-
-
-def d_of(place: Place, slab: int) -> int:
-    """d of a misplaced slab."""
-    return reading.foot(place.now, place.goal, slab)[1]
-
-
-def way(place: Place, slab: int) -> int:
-    """The slab through which its successor is in a misplaced slab's way."""
-    return reading.in_the_way(place.now, place.goal, slab)
-
-
-def wait_for(place: Place, slab: int) -> int:
-    """How many misplaced clear slabs have a slab as their successor."""
-    ways = [way(place, other) for other in waiting(place.now, place.goal)]
-    return sum(reading.top(place.now, through) == slab for through in ways)
-
-
-def behind(place: Place, slab: int) -> Yard:
-    """The yard when a slab has gone home where it can, else to the ground."""
-    home = reading.is_constructive(place.now, place.goal, slab)
-    return reading.lifted(place.now, slab, wished(place, slab) if home else 0)
-
-
-def lifted_last(place: Place, slab: int) -> int:
-    """When a slab was lifted last; 0 where it never was."""
-    return max((k + 1 for k, lift in enumerate(place.lifts) if lift[0] == slab), default=0)
+def successor(place: Place, slab: int) -> int:
+    """The successor of a misplaced slab."""
+    return reading.top(place.now, reading.in_the_way(place.now, place.goal, slab))
 
 
 def last(place: Place) -> Pair:
@@ -165,68 +139,118 @@ def last(place: Place) -> Pair:
     return place.lifts[-1] if place.lifts else (0, 0)
 
 
-def sizes(place: Place, slab: int) -> tuple[int, int]:
-    """How many slabs a slab's pile has, now and in the goal."""
-    return len(whole_pile(place.now, slab)), len(whole_pile(place.goal, slab))
+def behind(place: Place, slab: int) -> Yard:
+    """The yard when a slab has gone home where it can, else to the ground."""
+    home = reading.is_constructive(place.now, place.goal, slab)
+    return reading.lifted(place.now, slab, place.goal[slab - 1] if home else 0)
 
 
-KEYS: dict[str, Callable[[Place, int], int]] = {
-    "its number": lambda p, s: s,
-    "an even number": lambda p, s: s % 2 == 0,
-    # what it rests on and goes onto
-    "what it rests on": support,
-    "what it goes onto": wished,
-    "is on the ground": lambda p, s: support(p, s) == 0,
-    "goes to the ground": lambda p, s: wished(p, s) == 0,
-    "rests on a higher number": lambda p, s: support(p, s) > s,
-    "goes onto a higher number": lambda p, s: wished(p, s) > s,
-    "rests on a higher number than it goes onto": lambda p, s: support(p, s) > wished(p, s),
-    "rests where it goes": lambda p, s: support(p, s) == wished(p, s),
-    "rests on what goes to the ground": lambda p, s: support(p, s) != 0 and wished(p, support(p, s)) == 0,
-    "rests on what is on the ground": lambda p, s: support(p, s) != 0 and support(p, support(p, s)) == 0,
-    "goes onto what is on the ground": lambda p, s: wished(p, s) != 0 and support(p, wished(p, s)) == 0,
-    # piles
-    "how high it lies": lambda p, s: len(pile(p.now, s)),
-    "how high it goes": lambda p, s: len(pile(p.goal, s)),
-    "the size of its pile": lambda p, s: sizes(p, s)[0],
-    "the size of its goal pile": lambda p, s: sizes(p, s)[1],
-    "how many go above it": lambda p, s: sizes(p, s)[1] - len(pile(p.goal, s)),
+def wait_for(place: Place, slab: int) -> int:
+    """How many misplaced clear slabs have a slab as their successor."""
+    return sum(successor(place, other) == slab for other in waiting(place.now, place.goal))
+
+
+def lifted_last(place: Place, slab: int) -> int:
+    """When a slab was lifted last; 0 where it never was."""
+    return max((k + 1 for k, lift in enumerate(place.lifts) if lift[0] == slab), default=0)
+
+
+def common(place: Place, slab: int) -> int:
+    """How many slabs are beneath a slab both now and in the goal."""
+    return len(set(reading.beneath(place.now, slab)) & set(reading.beneath(place.goal, slab)))
+
+
+Key = Callable[[Place, int], int]
+
+# Slabs that belong to a slab; 0 is the ground, or none.
+NEAR: dict[str, Key] = {
+    "itself": lambda p, s: s,
+    "its support": lambda p, s: on(p.now, s),
+    "its goal support": lambda p, s: on(p.goal, s),
+    "its support's support": lambda p, s: on(p.now, on(p.now, s)),
+    "its support's goal support": lambda p, s: on(p.goal, on(p.now, s)),
+    "its goal support's support": lambda p, s: on(p.now, on(p.goal, s)),
+    "its goal support's goal support": lambda p, s: on(p.goal, on(p.goal, s)),
+    "what lies on its goal support": lambda p, s: load(p.now, on(p.goal, s)),
+    "what goes onto it": lambda p, s: load(p.goal, s),
+    "what goes onto its support": lambda p, s: load(p.goal, on(p.now, s)),
+    "c": lambda p, s: reading.foot(p.now, p.goal, s)[0],
+}
+FAR: dict[str, Key] = {
+    "d": lambda p, s: reading.foot(p.now, p.goal, s)[1],
+    "what is in its way": lambda p, s: reading.in_the_way(p.now, p.goal, s),
+    "its successor": successor,
     "the foot of its pile": lambda p, s: pile(p.now, s)[0],
     "the foot of its goal pile": lambda p, s: pile(p.goal, s)[0],
-    "goes onto its own pile": lambda p, s: wished(p, s) in pile(p.now, s),
+    "the top of its goal pile": lambda p, s: reading.top(p.goal, s),
+}
+
+# What can be said of a slab; of the ground too.
+SAID: dict[str, Key] = {
+    "by number": lambda p, x: x,
+    "is the ground or none": lambda p, x: x == 0,
+    "has an even number": lambda p, x: x % 2 == 0,
+    "is clear": lambda p, x: reading.clear(p.now, x),
+    "is to be clear": lambda p, x: reading.clear(p.goal, x),
+    "is right": right,
+    "is a slab that is right": lambda p, x: x != 0 and right(p, x),
+    "is on the ground": lambda p, x: x != 0 and on(p.now, x) == 0,
+    "goes to the ground": lambda p, x: x != 0 and on(p.goal, x) == 0,
+    "by how high it lies": lambda p, x: len(pile(p.now, x)) if x else 0,
+    "by how high it goes": lambda p, x: len(pile(p.goal, x)) if x else 0,
+    "by how many lie above it": lambda p, x: above(p.now, x) if x else 0,
+    "by how many go above it": lambda p, x: above(p.goal, x) if x else 0,
+    "was lifted before": lambda p, x: lifted_last(p, x) != 0,
+}
+
+# Whole piles, what a lift leads to, and what was lifted before.
+OTHERS: dict[str, Key] = {
+    "the size of its pile": lambda p, s: len(pile(p.now, reading.top(p.now, s))),
+    "the size of its goal pile": lambda p, s: len(pile(p.goal, reading.top(p.goal, s))),
+    "the lowest number of its pile": lambda p, s: min(pile(p.now, s)),
+    "the highest number of its pile": lambda p, s: max(pile(p.now, s)),
+    "the lowest number of its goal pile": lambda p, s: min(pile(p.goal, reading.top(p.goal, s))),
+    "the highest number of its goal pile": lambda p, s: max(pile(p.goal, reading.top(p.goal, s))),
     "the misplaced slabs of its pile": lambda p, s: sum(not right(p, one) for one in pile(p.now, s)),
     "the misplaced slabs of its goal pile": lambda p, s: sum(not right(p, one) for one in pile(p.goal, s)),
-    # what is right, clear or in the way
-    "its support is right": lambda p, s: right(p, support(p, s)),
-    "its support is a slab that is right": lambda p, s: support(p, s) != 0 and right(p, support(p, s)),
-    "its goal support is right": lambda p, s: right(p, wished(p, s)),
-    "its goal support is clear": lambda p, s: reading.clear(p.now, wished(p, s)),
-    "the foot of its pile is right": lambda p, s: right(p, pile(p.now, s)[0]),
-    "the foot of its goal pile is right": lambda p, s: right(p, pile(p.goal, s)[0]),
-    "c": c_of,
-    "c is the ground": lambda p, s: c_of(p, s) == 0,
-    "c is clear": lambda p, s: reading.clear(p.now, c_of(p, s)),
-    "d": d_of,
-    "d is clear": lambda p, s: reading.clear(p.now, d_of(p, s)),
-    "how far d is": lambda p, s: reading.beneath(p.goal, s).index(d_of(p, s)) + 1 if d_of(p, s) != s else 0,
-    "what is in its way": way,
-    "is in its own way": lambda p, s: way(p, s) in pile(p.now, s),
+    "goes onto its own pile": lambda p, s: on(p.goal, s) in pile(p.now, s),
+    "its support goes above it": lambda p, s: on(p.now, s) != 0 and s in pile(p.goal, on(p.now, s)),
+    "is off the ground both now and in the goal": lambda p, s: on(p.now, s) != 0 and on(p.goal, s) != 0,
+    "how many are beneath it both now and in the goal": common,
+    "is in its own way": lambda p, s: successor(p, s) == s,
     "how many wait for it": wait_for,
-    # what its lift leads to
+    "is on its loop": lambda p, s: s in reading.visits(p.now, p.goal, s)[1],
+    "the size of its loop": lambda p, s: len(reading.visits(p.now, p.goal, s)[1]),
+    "how many its walk visits": lambda p, s: len(reading.visits(p.now, p.goal, s)[0]),
     "the constructive lifts after it": lambda p, s: len(ready(behind(p, s), p.goal)),
+    "what it uncovers is ready then": lambda p, s: on(p.now, s) in ready(behind(p, s), p.goal),
+    "what goes onto it is ready then": lambda p, s: load(p.goal, s) in ready(behind(p, s), p.goal),
     "the misplaced clear slabs after it": lambda p, s: len(waiting(behind(p, s), p.goal)),
-    "the clear slabs after it": lambda p, s: sum(reading.clear(behind(p, s), one) for one in reading.slabs(p.now)),
-    # what was lifted before
-    "was lifted before": lambda p, s: lifted_last(p, s) != 0,
     "when it was lifted last": lifted_last,
     "how far its number is from the last lift's": lambda p, s: abs(s - last(p)[0]),
     "its turn behind the last lift's slab": lambda p, s: (s - last(p)[0] - 1) % len(p.now),
     "its turn before the last lift's slab": lambda p, s: (last(p)[0] - s - 1) % len(p.now),
     "was uncovered by the last lift": lambda p, s: bool(p.lifts) and p.left == s,
-    "rests on the last lift's destination": lambda p, s: bool(p.lifts) and support(p, s) == last(p)[1],
-    "goes onto the last lift's slab": lambda p, s: bool(p.lifts) and wished(p, s) == last(p)[0],
-    "goes to where the last lift's slab was": lambda p, s: bool(p.lifts) and wished(p, s) == p.left,
+    "rests on the last lift's destination": lambda p, s: bool(p.lifts) and on(p.now, s) == last(p)[1],
+    "goes onto the last lift's slab": lambda p, s: bool(p.lifts) and on(p.goal, s) == last(p)[0],
+    "goes to where the last lift's slab was": lambda p, s: bool(p.lifts) and on(p.goal, s) == p.left,
+    "its number, in turn lowest and highest": lambda p, s: s if len(p.lifts) % 2 else -s,
+    "its number, after the first lift the highest": lambda p, s: -s if p.lifts else s,
 }
+
+
+def keys() -> Iterator[tuple[str, Key]]:
+    """All that a slab can be chosen by."""
+    for (name, near), (said, holds) in itertools.product({**NEAR, **FAR}.items(), SAID.items()):
+        yield f"{name} {said}", lambda p, s, x=near, of=holds: of(p, x(p, s))
+    for (name, near), (other, far) in itertools.combinations(NEAR.items(), 2):
+        yield f"{name} is {other}", lambda p, s, x=near, y=far: x(p, s) == y(p, s)
+        yield f"{name} has a lower number than {other}", lambda p, s, x=near, y=far: x(p, s) < y(p, s)
+    yield from OTHERS.items()
+
+
+KEYS = dict(keys())
+LOWEST = "itself by number"
 
 # On the loop also by when the walk comes to a slab: the slabs of a loop are in the order of the walk.
 LOOP_KEY = "its place on the loop"
@@ -245,20 +269,23 @@ class Rule(NamedTuple):
         order, number = "most" if self.most else "least", "highest" if self.highest else "lowest"
         return f"{self.point} by: {self.key}, {order} first, then the {number} number"
 
-    def differs(self, decision: Decision) -> bool:
-        """Whether what is chosen by this rule leads elsewhere than the lowest number."""
-        place, slabs = decision.place, list(decision.follows)
+    def differs(self, decision: Decision, values: Sequence[int]) -> bool:
+        """Whether what is chosen by this rule, and what its slabs have of the key, leads elsewhere than the lowest."""
         least, lowest = -1 if self.most else 1, -1 if self.highest else 1
+        slabs = list(decision.follows)
+        _, number = min((least * value, lowest * slab) for value, slab in zip(values, slabs))
+        return decision.follows[lowest * number] != decision.follows[min(slabs)]
 
-        def value(slab: int) -> tuple[int, int]:
-            by = slabs.index(slab) if self.key == LOOP_KEY else KEYS[self.key](place, slab)
-            return least * by, lowest * slab
 
-        return decision.follows[min(slabs, key=value)] != decision.follows[min(slabs)]
+def values(key: str, decision: Decision) -> list[int]:
+    """What the slabs of a decision have of a key."""
+    if key == LOOP_KEY:
+        return list(range(len(decision.follows)))
+    return [int(KEYS[key](decision.place, slab)) for slab in decision.follows]
 
 
 def rules() -> Iterator[Rule]:
     """Every rule but document 01's own."""
     for point, key, most, highest in itertools.product(POINTS, [*KEYS, LOOP_KEY], (False, True), (False, True)):
-        if (key, most) != ("its number", False) and (key != LOOP_KEY or point == "method 3 puts down"):
+        if (key, most) != (LOWEST, False) and (key != LOOP_KEY or point == "method 3 puts down"):
             yield Rule(point, key, most, highest)

@@ -12,13 +12,13 @@ use Rattle.blocks.specs.Length.{fitsᵇ, asksLengths, overhangsᵇ, firs
 use Rattle.blocks.specs.Sheet.{completed, sheetQuestions, planQuestions, deadlockQuestions, replayQuestions}
 use Rattle.blocks.specs.Replay.{moveQuestions, fitQuestions, liftQuestions}
 use Rattle.blocks.specs.Answer.{checkAnswer, planAnswer, planSpace, deadlockAnswer, deadlockSpace, firstDifference, replayFrom, replayAnswer}
-use Rattle.blocks.specs.Sheets.{starred, ties, rivals, counts, lifts, verdicts, refusals, measured, AllHold}
+use Rattle.blocks.specs.Sheets.{starred, ties, counts, lifts, verdicts, refusals, measured, AllHold}
 
 infixr 5 _&_
 abbrev _&_ : {A B : Type 0} → A → B → A × B
 a & b = (a, b)
 
-pub sheets-hold : AllHold starred × AllHold ties × AllHold rivals × AllHold counts × AllHold lifts × AllHold verdicts × AllHold refusals × AllHold measured
+pub sheets-hold : AllHold starred × AllHold ties × AllHold counts × AllHold lifts × AllHold verdicts × AllHold refusals × AllHold measured
 unfolding completed lowest count load clearᵇ groundedᵇ agreesᵇ firstRight position inPositionᵇ nearest misplacedᵇ waitingᵇ readyᵇ perchedᵇ twiceᵇ misplacedCount
     measure restsOn lastMisplaced blocker top successor walk loop lowestOf onward blockedRows iterate fuel lowestPerched lowestReady lowestOnLoop
     clearing building solving outcome built
@@ -36,19 +36,18 @@ sheets-hold = (
       (refl, refl, refl) & (refl, refl, refl) & (refl, refl, refl) & (refl, refl, refl) & (refl, refl, refl) & (refl, refl, refl) &
       (refl, refl, refl) & (refl, refl, refl) & (refl, refl, refl) & (refl, refl, refl) & (refl, refl, refl) & (refl, refl, refl) &
       (refl, refl, refl) & (refl, refl, refl) & (refl, refl, refl) & (refl, refl, refl) & (refl, refl, refl) & (refl, refl, refl) &
-      (refl, refl, refl) & (refl, refl, refl) & tt,
-  (refl, refl, refl) & (refl, refl, refl) & (refl, refl, refl) & (refl, refl, refl) & (refl, refl, refl) & (refl, refl, refl) & (refl, refl, refl) &
-      (refl, refl, refl) & (refl, refl, refl) & (refl, refl, refl) & (refl, refl, refl) & (refl, refl, refl) & (refl, refl, refl) &
-      (refl, refl, refl) & (refl, refl, refl) & (refl, refl, refl) & (refl, refl, refl) & (refl, refl, refl) & (refl, refl, refl) &
       (refl, refl, refl) & (refl, refl, refl) & (refl, refl, refl) & (refl, refl, refl) & (refl, refl, refl) & (refl, refl, refl) & tt,
   (refl, refl) & (refl, refl) & (refl, refl) & (refl, refl) & (refl, refl) & (refl, refl) & (refl, refl) & (refl, refl) & tt,
   refl & (refl, refl) & (refl, refl) & (refl, refl) & refl & (refl, refl) & refl & refl & (refl, refl) & (refl, refl) & (refl, refl) & refl &
       (refl, refl) & (refl, refl) & (refl, refl) & tt,
-  refl & refl & refl & refl & refl & refl & refl & refl & refl & refl & refl & refl & refl & refl & refl & refl & refl & refl & refl & tt,
-  refl & refl & refl & refl & refl & refl & refl & refl & refl & refl & refl & refl & refl & refl & refl & refl & refl & (refl, refl) & (refl, refl) &
-      (refl, refl) & (refl, refl) & (refl, refl) & (refl, refl) & (refl, refl) & (refl, refl) & (refl, refl) & (refl, refl) & refl & refl & tt,
   refl & refl & refl & refl & refl & refl & refl & refl & refl & refl & refl & refl & refl & refl & refl & refl & refl & refl & refl & refl & refl &
+      refl & refl & refl & refl & refl & refl & refl & refl & tt,
+  refl & refl & refl & refl & refl & refl & refl & refl & refl & refl & refl & refl & refl & refl & refl & refl & refl & refl & refl & refl & refl &
+      refl & refl & refl & refl & refl & refl & refl & refl & refl & refl & refl & refl & refl & (refl, refl) & (refl, refl) & (refl, refl) &
+      (refl, refl) & (refl, refl) & (refl, refl) & (refl, refl) & (refl, refl) & (refl, refl) & (refl, refl) & refl & refl & tt,
+  refl & refl & refl & refl & refl & refl & refl & refl & refl & refl & refl & refl & refl & refl & refl & refl & refl & refl & refl & refl & refl &
+      refl & refl & refl & refl & refl & refl & refl & refl & refl & refl & refl & refl & refl & refl & refl & refl & refl & refl & refl & refl &
       refl & refl & refl & refl & refl & refl & refl & (refl, refl, refl) & (refl, refl, refl) & (refl, refl, refl) & refl & refl & refl & refl &
-      refl & refl & (refl, refl) & (refl, refl) & (refl, refl) & (refl, refl) & (refl, refl) & (refl, refl) & (refl, refl) & (refl, refl) & refl &
-      refl & tt,
+      refl & refl & refl & (refl, refl) & (refl, refl) & (refl, refl) & (refl, refl) & (refl, refl) & (refl, refl) & (refl, refl) & (refl, refl) &
+      refl & refl & tt,
 )

@@ -46,12 +46,18 @@ lent n = replicate n 99
 abbrev pub onTop : List ℕ → ℕ → List ℕ
 onTop l n = l ++ lent (n - length l)
 
--- The space that planning needs, and the deadlock test.
+-- A number more than planning needs, and the deadlock test; what is just enough stands in `Limits`.
+abbrev pub lifts-most : Sheet → ℕ
+lifts-most h = 4 * length (h .initial) + 1
+
 abbrev pub lifts-lent : Sheet → List ℕ
-lifts-lent h = lent (4 * length (h .initial))
+lifts-lent h = lent (lifts-most h)
+
+abbrev pub rows-most : Sheet → ℕ
+rows-most h = shownWidth * length (h .initial) + 1
 
 abbrev pub rows-lent : Sheet → List ℕ
-rows-lent h = lent (shownWidth * length (h .initial))
+rows-lent h = lent (rows-most h)
 
 -- Planning refuses: number, place, counts 0, and the space as it was.
 abbrev pub Refuses : Call → Sheet → ℕ → ℕ → ℕ → Type 0
@@ -59,12 +65,12 @@ Refuses c h n k p = (planAnswer c h (lent n) ≡ record { number = k; place = p;
 
 abbrev pub Holds : Claim → Type 0
 Holds (gives h m l) =
-    (planSpace (office m) h (lifts-lent h) ≡ onTop l (4 * length (h .initial)))
+    (planSpace (office m) h (lifts-lent h) ≡ onTop l (lifts-most h))
     × (2 * (planAnswer (office m) h (lifts-lent h)) .count ≡ length l)
     × ((planAnswer (office m) h (lifts-lent h)) .number ≡ 0)
 Holds (takes h m k) = ((planAnswer (office m) h (lifts-lent h)) .count ≡ k) × ((planAnswer (office m) h (lifts-lent h)) .number ≡ 0)
 Holds (shows h l) =
-    (deadlockSpace h (rows-lent h) ≡ onTop l (shownWidth * length (h .initial)))
+    (deadlockSpace h (rows-lent h) ≡ onTop l (rows-most h))
     × (shownWidth * (deadlockAnswer h (rows-lent h)) .count ≡ length l)
     × ((deadlockAnswer h (rows-lent h)) .number ≡ 0)
 Holds (misplaces h c) = ((planAnswer (office 1) h (lifts-lent h)) .misplaced ≡ c) × ((planAnswer (office 1) h (lifts-lent h)) .number ≡ 0)
@@ -155,6 +161,8 @@ ties =
     gives (plain (0 ∷ 0 ∷ 0 ∷ 1 ∷ []) (0 ∷ 0 ∷ 2 ∷ 0 ∷ [])) 2 (3 ∷ 2 ∷ 4 ∷ 0 ∷ []) ∷
     gives (plain (3 ∷ 0 ∷ 0 ∷ 2 ∷ []) (0 ∷ 0 ∷ 1 ∷ 0 ∷ [])) 3 (1 ∷ 0 ∷ 3 ∷ 1 ∷ 4 ∷ 0 ∷ []) ∷
     gives (plain (3 ∷ 0 ∷ 2 ∷ 1 ∷ []) (0 ∷ 4 ∷ 0 ∷ 1 ∷ [])) 3 (4 ∷ 0 ∷ 1 ∷ 0 ∷ 3 ∷ 0 ∷ 4 ∷ 1 ∷ 2 ∷ 4 ∷ []) ∷
+    -- also where the lower has one only since the last lift
+    gives (plain (0 ∷ 0 ∷ 1 ∷ 0 ∷ []) (3 ∷ 0 ∷ 0 ∷ 2 ∷ [])) 2 (3 ∷ 0 ∷ 1 ∷ 3 ∷ 4 ∷ 2 ∷ []) ∷
     -- of two slabs to put down the lower comes first, wherever they stand
     gives (plain (0 ∷ 0 ∷ 1 ∷ 2 ∷ []) (0 ∷ 0 ∷ 0 ∷ 0 ∷ [])) 1 (3 ∷ 0 ∷ 4 ∷ 0 ∷ []) ∷
     gives (plain (0 ∷ 0 ∷ 2 ∷ 1 ∷ []) (0 ∷ 0 ∷ 0 ∷ 0 ∷ [])) 1 (3 ∷ 0 ∷ 4 ∷ 0 ∷ []) ∷
@@ -177,9 +185,15 @@ ties =
     gives (plain (4 ∷ 0 ∷ 2 ∷ 0 ∷ 1 ∷ 3 ∷ []) (0 ∷ 6 ∷ 4 ∷ 2 ∷ 1 ∷ 0 ∷ [])) 3 (6 ∷ 0 ∷ 3 ∷ 0 ∷ 2 ∷ 6 ∷ 5 ∷ 0 ∷ 1 ∷ 0 ∷ 4 ∷ 2 ∷ 3 ∷ 4 ∷ 5 ∷ 1 ∷ []) ∷
     gives (plain (3 ∷ 0 ∷ 2 ∷ 1 ∷ 7 ∷ 0 ∷ 0 ∷ []) (2 ∷ 0 ∷ 0 ∷ 3 ∷ 6 ∷ 7 ∷ 0 ∷ [])) 3 (4 ∷ 0 ∷ 1 ∷ 0 ∷ 3 ∷ 0 ∷ 1 ∷ 2 ∷ 4 ∷ 3 ∷ 5 ∷ 0 ∷ 6 ∷ 7 ∷ 5 ∷ 6 ∷ []) ∷
     gives (plain (0 ∷ 6 ∷ 7 ∷ 8 ∷ 9 ∷ 0 ∷ 0 ∷ 0 ∷ 0 ∷ []) (8 ∷ 7 ∷ 6 ∷ 9 ∷ 1 ∷ 0 ∷ 0 ∷ 0 ∷ 0 ∷ [])) 3 (4 ∷ 0 ∷ 1 ∷ 8 ∷ 5 ∷ 1 ∷ 4 ∷ 9 ∷ 2 ∷ 0 ∷ 3 ∷ 6 ∷ 2 ∷ 7 ∷ []) ∷
+    gives (plain (0 ∷ 6 ∷ 7 ∷ 8 ∷ 9 ∷ 0 ∷ 0 ∷ 0 ∷ 0 ∷ []) (7 ∷ 1 ∷ 8 ∷ 9 ∷ 6 ∷ 0 ∷ 0 ∷ 0 ∷ 0 ∷ [])) 3 (2 ∷ 0 ∷ 5 ∷ 6 ∷ 4 ∷ 9 ∷ 3 ∷ 8 ∷ 1 ∷ 7 ∷ 2 ∷ 1 ∷ []) ∷
+    -- the lowest when the yard stalls, though the slab at which the last walk began waits still
+    gives (plain (7 ∷ 4 ∷ 0 ∷ 0 ∷ 8 ∷ 0 ∷ 9 ∷ 1 ∷ 0 ∷ []) (9 ∷ 3 ∷ 4 ∷ 8 ∷ 7 ∷ 0 ∷ 2 ∷ 6 ∷ 0 ∷ [])) 3
+    (5 ∷ 0 ∷ 8 ∷ 6 ∷ 1 ∷ 0 ∷ 2 ∷ 0 ∷ 4 ∷ 8 ∷ 3 ∷ 4 ∷ 2 ∷ 3 ∷ 7 ∷ 2 ∷ 1 ∷ 9 ∷ 5 ∷ 7 ∷ []) ∷
     -- and so are the rows of the deadlock test
     shows (plain (0 ∷ 0 ∷ 0 ∷ 2 ∷ 1 ∷ []) (0 ∷ 0 ∷ 1 ∷ 3 ∷ 2 ∷ [])) (4 ∷ 1 ∷ 1 ∷ 5 ∷ 2 ∷ 2 ∷ []) ∷
     shows (plain (3 ∷ 4 ∷ 5 ∷ 0 ∷ 0 ∷ []) (3 ∷ 5 ∷ 0 ∷ 0 ∷ 4 ∷ [])) (1 ∷ 3 ∷ 0 ∷ []) ∷
+    -- the loop is that of the lowest slab that waits, 3, and not that with the lowest number: 5 is in its own way
+    shows (plain (2 ∷ 0 ∷ 0 ∷ 0 ∷ 4 ∷ 1 ∷ []) (4 ∷ 0 ∷ 6 ∷ 0 ∷ 1 ∷ 2 ∷ [])) (6 ∷ 2 ∷ 2 ∷ []) ∷
     -- c is that of the stalled yard: 5 has gone onto 4 before; at the start it is 4
     shows (plain (2 ∷ 3 ∷ 0 ∷ 0 ∷ 0 ∷ []) (2 ∷ 5 ∷ 0 ∷ 0 ∷ 4 ∷ [])) (1 ∷ 2 ∷ 5 ∷ []) ∷
     -- and not what the block rests on in the goal: 5 and 3 lie between 1 and 4
@@ -195,40 +209,6 @@ ties =
     shows (plain (4 ∷ 5 ∷ 6 ∷ 0 ∷ 0 ∷ 0 ∷ []) (6 ∷ 4 ∷ 5 ∷ 0 ∷ 0 ∷ 0 ∷ [])) (1 ∷ 6 ∷ 6 ∷ 3 ∷ 5 ∷ 5 ∷ 2 ∷ 4 ∷ 4 ∷ []) ∷
     gives (plain (0 ∷ 6 ∷ 7 ∷ 8 ∷ 9 ∷ 0 ∷ 0 ∷ 0 ∷ 0 ∷ []) (7 ∷ 9 ∷ 8 ∷ 6 ∷ 1 ∷ 0 ∷ 0 ∷ 0 ∷ 0 ∷ [])) 3 (2 ∷ 0 ∷ 4 ∷ 6 ∷ 3 ∷ 8 ∷ 1 ∷ 7 ∷ 5 ∷ 1 ∷ 2 ∷ 9 ∷ []) ∷
     shows (plain (0 ∷ 6 ∷ 7 ∷ 8 ∷ 9 ∷ 0 ∷ 0 ∷ 0 ∷ 0 ∷ []) (7 ∷ 9 ∷ 8 ∷ 6 ∷ 1 ∷ 0 ∷ 0 ∷ 0 ∷ 0 ∷ [])) (2 ∷ 9 ∷ 9 ∷ 5 ∷ 7 ∷ 7 ∷ 3 ∷ 8 ∷ 8 ∷ 4 ∷ 6 ∷ 6 ∷ []) ∷
-    []
-
--- Rivals of "the lowest-numbered" (docs/DECISIONS.md, "Tables with whole lists"): each row tells some other rule that no row of `ties` tells.
-abbrev pub rivals : List Claim
-rivals =
-    -- method 1
-    gives (plain (4 ∷ 0 ∷ 0 ∷ 0 ∷ []) (0 ∷ 1 ∷ 4 ∷ 0 ∷ [])) 1 (1 ∷ 0 ∷ 2 ∷ 1 ∷ 3 ∷ 4 ∷ []) ∷
-    gives (plain (2 ∷ 0 ∷ 0 ∷ 1 ∷ 6 ∷ 0 ∷ []) (3 ∷ 0 ∷ 0 ∷ 6 ∷ 1 ∷ 0 ∷ [])) 1 (4 ∷ 0 ∷ 1 ∷ 0 ∷ 5 ∷ 0 ∷ 1 ∷ 3 ∷ 4 ∷ 6 ∷ 5 ∷ 1 ∷ []) ∷
-    gives (plain (5 ∷ 0 ∷ 4 ∷ 2 ∷ 6 ∷ 0 ∷ []) (0 ∷ 0 ∷ 5 ∷ 3 ∷ 1 ∷ 4 ∷ [])) 1 (1 ∷ 0 ∷ 3 ∷ 0 ∷ 4 ∷ 0 ∷ 5 ∷ 0 ∷ 5 ∷ 1 ∷ 3 ∷ 5 ∷ 4 ∷ 3 ∷ 6 ∷ 4 ∷ []) ∷
-    -- method 2
-    gives (plain (0 ∷ 5 ∷ 4 ∷ 2 ∷ 1 ∷ []) (3 ∷ 0 ∷ 4 ∷ 0 ∷ 0 ∷ [])) 2 (3 ∷ 0 ∷ 4 ∷ 0 ∷ 2 ∷ 0 ∷ 3 ∷ 4 ∷ 5 ∷ 0 ∷ 1 ∷ 3 ∷ []) ∷
-    gives (plain (6 ∷ 0 ∷ 0 ∷ 1 ∷ 2 ∷ 3 ∷ []) (5 ∷ 0 ∷ 0 ∷ 3 ∷ 6 ∷ 2 ∷ [])) 2 (4 ∷ 0 ∷ 1 ∷ 0 ∷ 5 ∷ 0 ∷ 6 ∷ 2 ∷ 4 ∷ 3 ∷ 5 ∷ 6 ∷ 1 ∷ 5 ∷ []) ∷
-    gives (plain (0 ∷ 0 ∷ 5 ∷ 3 ∷ 0 ∷ 7 ∷ 1 ∷ []) (0 ∷ 3 ∷ 0 ∷ 5 ∷ 0 ∷ 2 ∷ 6 ∷ [])) 2 (4 ∷ 0 ∷ 3 ∷ 0 ∷ 2 ∷ 3 ∷ 4 ∷ 5 ∷ 6 ∷ 2 ∷ 7 ∷ 6 ∷ []) ∷
-    gives (plain (6 ∷ 0 ∷ 5 ∷ 0 ∷ 7 ∷ 4 ∷ 2 ∷ []) (7 ∷ 0 ∷ 2 ∷ 0 ∷ 4 ∷ 5 ∷ 3 ∷ [])) 2 (1 ∷ 0 ∷ 3 ∷ 0 ∷ 5 ∷ 0 ∷ 6 ∷ 0 ∷ 5 ∷ 4 ∷ 6 ∷ 5 ∷ 7 ∷ 0 ∷ 3 ∷ 2 ∷ 7 ∷ 3 ∷ 1 ∷ 7 ∷ []) ∷
-    -- method 3
-    gives (plain (0 ∷ 1 ∷ 4 ∷ 0 ∷ []) (0 ∷ 0 ∷ 0 ∷ 3 ∷ [])) 3 (2 ∷ 0 ∷ 3 ∷ 0 ∷ 4 ∷ 3 ∷ []) ∷
-    gives (plain (2 ∷ 0 ∷ 5 ∷ 1 ∷ 6 ∷ 0 ∷ []) (6 ∷ 0 ∷ 2 ∷ 1 ∷ 3 ∷ 0 ∷ [])) 3 (3 ∷ 0 ∷ 4 ∷ 0 ∷ 1 ∷ 0 ∷ 3 ∷ 2 ∷ 5 ∷ 3 ∷ 1 ∷ 6 ∷ 4 ∷ 1 ∷ []) ∷
-    gives (plain (5 ∷ 3 ∷ 0 ∷ 2 ∷ 0 ∷ 1 ∷ []) (0 ∷ 4 ∷ 0 ∷ 3 ∷ 0 ∷ 1 ∷ [])) 3 (4 ∷ 0 ∷ 2 ∷ 0 ∷ 4 ∷ 3 ∷ 2 ∷ 4 ∷ 6 ∷ 0 ∷ 1 ∷ 0 ∷ 6 ∷ 1 ∷ []) ∷
-    gives (plain (0 ∷ 0 ∷ 1 ∷ 2 ∷ 7 ∷ 0 ∷ 0 ∷ []) (5 ∷ 0 ∷ 2 ∷ 7 ∷ 0 ∷ 4 ∷ 1 ∷ [])) 3 (5 ∷ 0 ∷ 3 ∷ 0 ∷ 1 ∷ 5 ∷ 7 ∷ 1 ∷ 4 ∷ 7 ∷ 3 ∷ 2 ∷ 6 ∷ 4 ∷ []) ∷
-    gives (plain (5 ∷ 0 ∷ 2 ∷ 3 ∷ 6 ∷ 7 ∷ 0 ∷ []) (5 ∷ 0 ∷ 7 ∷ 2 ∷ 6 ∷ 3 ∷ 0 ∷ [])) 3 (1 ∷ 0 ∷ 5 ∷ 0 ∷ 6 ∷ 0 ∷ 4 ∷ 0 ∷ 3 ∷ 7 ∷ 4 ∷ 2 ∷ 6 ∷ 3 ∷ 5 ∷ 6 ∷ 1 ∷ 5 ∷ []) ∷
-    gives (plain (6 ∷ 3 ∷ 0 ∷ 7 ∷ 2 ∷ 0 ∷ 5 ∷ []) (6 ∷ 0 ∷ 1 ∷ 5 ∷ 2 ∷ 7 ∷ 0 ∷ [])) 3 (4 ∷ 0 ∷ 7 ∷ 0 ∷ 1 ∷ 0 ∷ 6 ∷ 7 ∷ 1 ∷ 6 ∷ 5 ∷ 0 ∷ 2 ∷ 0 ∷ 3 ∷ 1 ∷ 5 ∷ 2 ∷ 4 ∷ 5 ∷ []) ∷
-    gives (plain (6 ∷ 5 ∷ 7 ∷ 0 ∷ 1 ∷ 0 ∷ 0 ∷ []) (0 ∷ 5 ∷ 1 ∷ 3 ∷ 6 ∷ 7 ∷ 0 ∷ [])) 3 (2 ∷ 0 ∷ 3 ∷ 0 ∷ 5 ∷ 0 ∷ 1 ∷ 0 ∷ 3 ∷ 1 ∷ 4 ∷ 3 ∷ 6 ∷ 7 ∷ 5 ∷ 6 ∷ 2 ∷ 5 ∷ []) ∷
-    gives (plain (0 ∷ 0 ∷ 5 ∷ 7 ∷ 2 ∷ 8 ∷ 1 ∷ 0 ∷ []) (0 ∷ 0 ∷ 7 ∷ 5 ∷ 8 ∷ 1 ∷ 2 ∷ 0 ∷ [])) 3 (3 ∷ 0 ∷ 4 ∷ 0 ∷ 5 ∷ 0 ∷ 7 ∷ 2 ∷ 3 ∷ 7 ∷ 6 ∷ 1 ∷ 5 ∷ 8 ∷ 4 ∷ 5 ∷ []) ∷
-    gives (plain (0 ∷ 8 ∷ 6 ∷ 2 ∷ 0 ∷ 0 ∷ 1 ∷ 0 ∷ []) (0 ∷ 7 ∷ 1 ∷ 8 ∷ 0 ∷ 0 ∷ 6 ∷ 0 ∷ [])) 3 (3 ∷ 0 ∷ 7 ∷ 6 ∷ 3 ∷ 1 ∷ 4 ∷ 0 ∷ 2 ∷ 7 ∷ 4 ∷ 8 ∷ []) ∷
-    -- the deadlock test, where its walk begins
-    shows (plain (0 ∷ 3 ∷ 0 ∷ 5 ∷ 1 ∷ []) (0 ∷ 5 ∷ 0 ∷ 1 ∷ 3 ∷ [])) (2 ∷ 3 ∷ 3 ∷ []) ∷
-    shows (plain (0 ∷ 3 ∷ 1 ∷ 5 ∷ 0 ∷ 0 ∷ 4 ∷ []) (0 ∷ 1 ∷ 4 ∷ 0 ∷ 7 ∷ 3 ∷ 6 ∷ [])) (2 ∷ 1 ∷ 1 ∷ []) ∷
-    shows (plain (3 ∷ 0 ∷ 2 ∷ 7 ∷ 1 ∷ 4 ∷ 0 ∷ []) (2 ∷ 5 ∷ 1 ∷ 0 ∷ 0 ∷ 4 ∷ 0 ∷ [])) (1 ∷ 2 ∷ 5 ∷ []) ∷
-    shows (plain (6 ∷ 0 ∷ 7 ∷ 0 ∷ 0 ∷ 0 ∷ 5 ∷ []) (2 ∷ 4 ∷ 5 ∷ 6 ∷ 0 ∷ 0 ∷ 3 ∷ [])) (1 ∷ 6 ∷ 6 ∷ []) ∷
-    shows (plain (0 ∷ 1 ∷ 2 ∷ 8 ∷ 0 ∷ 7 ∷ 0 ∷ 5 ∷ []) (0 ∷ 4 ∷ 1 ∷ 7 ∷ 0 ∷ 8 ∷ 0 ∷ 5 ∷ [])) (3 ∷ 1 ∷ 1 ∷ []) ∷
-    shows (plain (0 ∷ 8 ∷ 6 ∷ 2 ∷ 0 ∷ 0 ∷ 1 ∷ 0 ∷ []) (0 ∷ 7 ∷ 1 ∷ 8 ∷ 0 ∷ 0 ∷ 6 ∷ 0 ∷ [])) (3 ∷ 1 ∷ 1 ∷ 7 ∷ 6 ∷ 6 ∷ []) ∷
-    shows (plain (4 ∷ 0 ∷ 0 ∷ 2 ∷ 0 ∷ 8 ∷ 5 ∷ 0 ∷ []) (0 ∷ 7 ∷ 8 ∷ 5 ∷ 0 ∷ 3 ∷ 4 ∷ 0 ∷ [])) (6 ∷ 8 ∷ 8 ∷ []) ∷
-    shows (plain (6 ∷ 1 ∷ 0 ∷ 3 ∷ 7 ∷ 0 ∷ 0 ∷ []) (0 ∷ 6 ∷ 5 ∷ 3 ∷ 0 ∷ 0 ∷ 4 ∷ [])) (2 ∷ 6 ∷ 6 ∷ []) ∷
-    shows (plain (0 ∷ 0 ∷ 2 ∷ 6 ∷ 7 ∷ 1 ∷ 0 ∷ []) (5 ∷ 0 ∷ 7 ∷ 0 ∷ 4 ∷ 1 ∷ 2 ∷ [])) (3 ∷ 2 ∷ 2 ∷ []) ∷
     []
 
 -- Every misplaced slab is counted and no other, as the yard stands at the start.
@@ -285,9 +265,15 @@ verdicts =
     replays S2 (1 ∷ 0 ∷ 3 ∷ 0 ∷ []) 1 2 ∷
     replays S2 (1 ∷ 0 ∷ 2 ∷ 3 ∷ []) 1 2 ∷
     replays S2 (2 ∷ 3 ∷ []) 1 1 ∷
+    replays S2 (0 ∷ 0 ∷ []) 1 1 ∷
+    replays S2 (3 ∷ 3 ∷ []) 1 1 ∷
     -- 2: a slab rests on it; asked before 3
     replays S2 (2 ∷ 0 ∷ []) 2 1 ∷
     replays S6 (2 ∷ 0 ∷ []) 2 1 ∷
+    replays S6 (2 ∷ 3 ∷ []) 2 1 ∷
+    -- and before 4
+    replays S2 (2 ∷ 2 ∷ []) 2 1 ∷
+    replays S4 (2 ∷ 4 ∷ []) 2 1 ∷
     -- 3: it rests there; asked before 4
     replays S2 (1 ∷ 2 ∷ []) 3 1 ∷
     replays S2 (1 ∷ 0 ∷ 1 ∷ 0 ∷ []) 3 2 ∷
@@ -303,6 +289,12 @@ verdicts =
     replays S2 (1 ∷ 0 ∷ []) 5 2 ∷
     -- by its support, and not by whether it is misplaced: 1 rests on 2, as it shall
     replays S6 [] 5 2 ∷
+    -- whether it is on the ground, clear or lifted, and wherever it rests and goes
+    replays (plain (0 ∷ 1 ∷ []) (2 ∷ 0 ∷ [])) [] 5 1 ∷
+    replays (plain (4 ∷ 0 ∷ 0 ∷ 0 ∷ []) (3 ∷ 0 ∷ 0 ∷ 2 ∷ [])) [] 5 1 ∷
+    replays (plain (0 ∷ 3 ∷ 1 ∷ 0 ∷ []) (3 ∷ 0 ∷ 0 ∷ 0 ∷ [])) (2 ∷ 0 ∷ 3 ∷ 0 ∷ 2 ∷ 3 ∷ []) 5 1 ∷
+    replays (plain (2 ∷ 5 ∷ 0 ∷ 0 ∷ 0 ∷ []) (0 ∷ 0 ∷ 0 ∷ 1 ∷ 2 ∷ [])) (1 ∷ 0 ∷ 2 ∷ 0 ∷ 3 ∷ 1 ∷ 5 ∷ 2 ∷ []) 5 3 ∷
+    replays (plain (5 ∷ 0 ∷ 4 ∷ 0 ∷ 3 ∷ 1 ∷ 0 ∷ []) (0 ∷ 0 ∷ 0 ∷ 2 ∷ 0 ∷ 1 ∷ 6 ∷ [])) (2 ∷ 7 ∷ 6 ∷ 2 ∷ 1 ∷ 0 ∷ []) 5 2 ∷
     -- at the end, and not on the way
     replays S2 (1 ∷ 0 ∷ 2 ∷ 1 ∷ 2 ∷ 0 ∷ []) 5 2 ∷
     -- "A list may be of any length"
@@ -324,6 +316,15 @@ refusals =
     -- the lowest slab, wherever it rests; 6 before 7
     checks (grounds (2 ∷ 2 ∷ 1 ∷ 1 ∷ 3 ∷ 3 ∷ [])) 5 2 ∷
     checks (plain (2 ∷ 3 ∷ 1 ∷ []) (4 ∷ 0 ∷ 0 ∷ [])) 6 1 ∷
+    checks (grounds (6 ∷ 6 ∷ 1 ∷ 3 ∷ 5 ∷ 1 ∷ [])) 5 2 ∷
+    checks (grounds (2 ∷ 4 ∷ 2 ∷ 4 ∷ [])) 5 3 ∷
+    checks (grounds (2 ∷ 4 ∷ 3 ∷ 0 ∷ 3 ∷ 2 ∷ [])) 5 5 ∷
+    checks (grounds (6 ∷ 1 ∷ 4 ∷ 6 ∷ 4 ∷ 0 ∷ [])) 5 4 ∷
+    checks (grounds (4 ∷ 0 ∷ 0 ∷ [])) 4 1 ∷
+    checks (grounds (5 ∷ 6 ∷ 1 ∷ [])) 4 1 ∷
+    checks (grounds (3 ∷ 6 ∷ 5 ∷ [])) 4 2 ∷
+    checks (grounds (2 ∷ 1 ∷ 3 ∷ [])) 6 1 ∷
+    checks (grounds (1 ∷ 3 ∷ 2 ∷ [])) 6 1 ∷
     -- 7, 8 and 9: the same three of the goal list
     checks (plain (0 ∷ 0 ∷ 0 ∷ 0 ∷ []) (2 ∷ 1 ∷ 0 ∷ 7 ∷ [])) 7 4 ∷
     checks (plain (0 ∷ 0 ∷ 0 ∷ []) (2 ∷ 1 ∷ 5 ∷ [])) 7 3 ∷
@@ -332,7 +333,15 @@ refusals =
     checks (plain (0 ∷ 0 ∷ 0 ∷ []) (0 ∷ 3 ∷ 2 ∷ [])) 9 2 ∷
     checks (plain (0 ∷ 0 ∷ 0 ∷ 0 ∷ []) (8 ∷ 9 ∷ 7 ∷ 7 ∷ [])) 7 1 ∷
     checks (plain (0 ∷ 0 ∷ 0 ∷ 0 ∷ 0 ∷ 0 ∷ []) (2 ∷ 2 ∷ 1 ∷ 1 ∷ 3 ∷ 3 ∷ [])) 8 2 ∷
+    checks (plain (0 ∷ 0 ∷ 0 ∷ 0 ∷ 0 ∷ 0 ∷ []) (6 ∷ 3 ∷ 3 ∷ 2 ∷ 6 ∷ 0 ∷ [])) 8 3 ∷
+    checks (plain (0 ∷ 0 ∷ 0 ∷ 0 ∷ 0 ∷ 0 ∷ []) (2 ∷ 0 ∷ 1 ∷ 2 ∷ 1 ∷ 0 ∷ [])) 8 4 ∷
+    checks (plain (0 ∷ 0 ∷ 0 ∷ 0 ∷ 0 ∷ 0 ∷ []) (3 ∷ 5 ∷ 6 ∷ 3 ∷ 6 ∷ 0 ∷ [])) 8 4 ∷
     checks (plain (0 ∷ 0 ∷ 0 ∷ []) (2 ∷ 3 ∷ 1 ∷ [])) 9 1 ∷
+    checks (plain (0 ∷ 0 ∷ 0 ∷ []) (4 ∷ 0 ∷ 0 ∷ [])) 7 1 ∷
+    checks (plain (0 ∷ 0 ∷ 0 ∷ []) (5 ∷ 6 ∷ 1 ∷ [])) 7 1 ∷
+    checks (plain (0 ∷ 0 ∷ 0 ∷ []) (3 ∷ 6 ∷ 5 ∷ [])) 7 2 ∷
+    checks (plain (0 ∷ 0 ∷ 0 ∷ []) (2 ∷ 1 ∷ 3 ∷ [])) 9 1 ∷
+    checks (plain (0 ∷ 0 ∷ 0 ∷ []) (1 ∷ 3 ∷ 2 ∷ [])) 9 1 ∷
     -- 1: the method, before all else
     refusesPlan S2 0 8 1 0 ∷
     refusesPlan (plain (2 ∷ 1 ∷ 5 ∷ []) []) 4 0 1 0 ∷
@@ -376,7 +385,10 @@ measured =
     -- by what it rests on, and not by what that rests on: 1 is as long as 2, and longer than 3
     checks (with (200 ∷ 200 ∷ 100 ∷ []) (2 ∷ 3 ∷ 0 ∷ []) (0 ∷ 0 ∷ 0 ∷ [])) 17 2 ∷
     checks (with (200 ∷ 100 ∷ 300 ∷ []) (2 ∷ 3 ∷ 0 ∷ []) (0 ∷ 0 ∷ 0 ∷ [])) 17 1 ∷
+    checks (with (300 ∷ 200 ∷ 100 ∷ []) (2 ∷ 3 ∷ 0 ∷ []) (0 ∷ 0 ∷ 0 ∷ [])) 17 1 ∷
     checks (with (200 ∷ 200 ∷ 100 ∷ 100 ∷ []) (4 ∷ 3 ∷ 0 ∷ 0 ∷ []) (0 ∷ 0 ∷ 0 ∷ 0 ∷ [])) 17 1 ∷
+    checks (with (300 ∷ 300 ∷ 100 ∷ 300 ∷ 400 ∷ []) (0 ∷ 3 ∷ 0 ∷ 5 ∷ 1 ∷ []) (0 ∷ 0 ∷ 0 ∷ 0 ∷ 0 ∷ [])) 17 2 ∷
+    checks (with (100 ∷ 200 ∷ 200 ∷ 400 ∷ 300 ∷ 100 ∷ []) (5 ∷ 1 ∷ 6 ∷ 0 ∷ 0 ∷ 0 ∷ []) (0 ∷ 0 ∷ 0 ∷ 0 ∷ 0 ∷ 0 ∷ [])) 17 2 ∷
     -- a centimetre is enough, at any length
     checks (with (201 ∷ 200 ∷ []) (2 ∷ 0 ∷ []) (0 ∷ 1 ∷ [])) 17 1 ∷
     checks (with (1 ∷ 0 ∷ []) (2 ∷ 0 ∷ []) (0 ∷ 1 ∷ [])) 17 1 ∷
@@ -390,7 +402,25 @@ measured =
     checks (with (200 ∷ 100 ∷ 200 ∷ 100 ∷ []) (0 ∷ 1 ∷ 0 ∷ 3 ∷ []) (2 ∷ 0 ∷ 4 ∷ 0 ∷ [])) 18 1 ∷
     checks (with (200 ∷ 200 ∷ 100 ∷ []) (0 ∷ 0 ∷ 0 ∷ []) (2 ∷ 3 ∷ 0 ∷ [])) 18 2 ∷
     checks (with (200 ∷ 100 ∷ 300 ∷ []) (0 ∷ 0 ∷ 0 ∷ []) (2 ∷ 3 ∷ 0 ∷ [])) 18 1 ∷
+    checks (with (300 ∷ 200 ∷ 100 ∷ []) (0 ∷ 0 ∷ 0 ∷ []) (2 ∷ 3 ∷ 0 ∷ [])) 18 1 ∷
     checks (with (200 ∷ 200 ∷ 100 ∷ 100 ∷ []) (0 ∷ 0 ∷ 0 ∷ 0 ∷ []) (4 ∷ 3 ∷ 0 ∷ 0 ∷ [])) 18 1 ∷
+    checks (with (200 ∷ 400 ∷ 300 ∷ 100 ∷ []) (0 ∷ 0 ∷ 0 ∷ 0 ∷ []) (4 ∷ 1 ∷ 0 ∷ 0 ∷ [])) 18 1 ∷
+    checks (with (100 ∷ 200 ∷ 200 ∷ 400 ∷ 300 ∷ 100 ∷ []) (0 ∷ 0 ∷ 0 ∷ 0 ∷ 0 ∷ 0 ∷ []) (5 ∷ 1 ∷ 6 ∷ 0 ∷ 0 ∷ 0 ∷ [])) 18 2 ∷
+    -- of several faults the first question's, whichever they are: 4 to 9 with all behind them
+    checks (with (5 ∷ []) (9 ∷ 1 ∷ 1 ∷ 4 ∷ []) (9 ∷ 1 ∷ 1 ∷ 4 ∷ [])) 4 1 ∷
+    checks (with (1 ∷ 2 ∷ 3 ∷ 4 ∷ []) (9 ∷ 1 ∷ 1 ∷ 4 ∷ []) (9 ∷ 1 ∷ 1 ∷ 4 ∷ [])) 4 1 ∷
+    checks (with (5 ∷ []) (0 ∷ 1 ∷ 1 ∷ 4 ∷ []) (9 ∷ 1 ∷ 1 ∷ 4 ∷ [])) 5 3 ∷
+    checks (with (1 ∷ 2 ∷ 3 ∷ 4 ∷ []) (0 ∷ 1 ∷ 1 ∷ 4 ∷ []) (9 ∷ 1 ∷ 1 ∷ 4 ∷ [])) 5 3 ∷
+    checks (with (5 ∷ []) (0 ∷ 1 ∷ 0 ∷ 4 ∷ []) (9 ∷ 1 ∷ 1 ∷ 4 ∷ [])) 6 4 ∷
+    checks (with (1 ∷ 2 ∷ 3 ∷ 4 ∷ []) (0 ∷ 1 ∷ 0 ∷ 4 ∷ []) (9 ∷ 1 ∷ 1 ∷ 4 ∷ [])) 6 4 ∷
+    checks (with (5 ∷ []) (0 ∷ 1 ∷ 0 ∷ 0 ∷ []) (9 ∷ 1 ∷ 1 ∷ 4 ∷ [])) 7 1 ∷
+    checks (with (1 ∷ 2 ∷ 3 ∷ 4 ∷ []) (0 ∷ 1 ∷ 0 ∷ 0 ∷ []) (9 ∷ 1 ∷ 1 ∷ 4 ∷ [])) 7 1 ∷
+    checks (with (5 ∷ []) (0 ∷ 1 ∷ 0 ∷ 0 ∷ []) (0 ∷ 1 ∷ 1 ∷ 4 ∷ [])) 8 3 ∷
+    checks (with (1 ∷ 2 ∷ 3 ∷ 4 ∷ []) (0 ∷ 1 ∷ 0 ∷ 0 ∷ []) (0 ∷ 1 ∷ 1 ∷ 4 ∷ [])) 8 3 ∷
+    checks (with (5 ∷ []) (0 ∷ 1 ∷ 0 ∷ 0 ∷ []) (0 ∷ 1 ∷ 0 ∷ 4 ∷ [])) 9 4 ∷
+    checks (with (1 ∷ 2 ∷ 3 ∷ 4 ∷ []) (0 ∷ 1 ∷ 0 ∷ 0 ∷ []) (0 ∷ 1 ∷ 0 ∷ 4 ∷ [])) 9 4 ∷
+    checks (with (1 ∷ 2 ∷ 3 ∷ []) (0 ∷ 1 ∷ 0 ∷ 0 ∷ []) (0 ∷ 1 ∷ 0 ∷ 0 ∷ [])) 16 0 ∷
+    checks (with (1 ∷ 2 ∷ 3 ∷ 4 ∷ []) (0 ∷ 1 ∷ 0 ∷ 0 ∷ []) (0 ∷ 0 ∷ 0 ∷ 3 ∷ [])) 17 2 ∷
     -- S2 and S4 with lengths that are accepted: the lists without them
     gives (with (200 ∷ 200 ∷ []) (2 ∷ 0 ∷ []) (0 ∷ 1 ∷ [])) 2 (1 ∷ 0 ∷ 2 ∷ 1 ∷ []) ∷
     gives (with (100 ∷ 300 ∷ 100 ∷ 200 ∷ []) (2 ∷ 0 ∷ 4 ∷ 0 ∷ []) (4 ∷ 0 ∷ 2 ∷ 0 ∷ [])) 2 (1 ∷ 0 ∷ 3 ∷ 2 ∷ 1 ∷ 4 ∷ []) ∷
@@ -400,6 +430,7 @@ measured =
     replays (with (300 ∷ 200 ∷ 100 ∷ []) (0 ∷ 0 ∷ 2 ∷ []) (0 ∷ 1 ∷ 2 ∷ [])) (1 ∷ 2 ∷ []) 4 1 ∷
     replays (with (300 ∷ 200 ∷ 100 ∷ []) (0 ∷ 0 ∷ 2 ∷ []) (0 ∷ 1 ∷ 2 ∷ [])) (3 ∷ 0 ∷ 2 ∷ 1 ∷ 3 ∷ 2 ∷ []) 0 0 ∷
     replays (with (201 ∷ 200 ∷ []) (0 ∷ 0 ∷ []) (0 ∷ 1 ∷ [])) (1 ∷ 2 ∷ []) 6 1 ∷
+    replays (with (300 ∷ 300 ∷ 200 ∷ 100 ∷ []) (0 ∷ 0 ∷ 0 ∷ 2 ∷ []) (0 ∷ 0 ∷ 0 ∷ 0 ∷ [])) (2 ∷ 3 ∷ []) 2 1 ∷
     -- equal lengths, and the ground
     replays (with (200 ∷ 200 ∷ []) (2 ∷ 0 ∷ []) (0 ∷ 1 ∷ [])) (1 ∷ 0 ∷ 2 ∷ 1 ∷ []) 0 0 ∷
     replays (with (200 ∷ 200 ∷ []) (2 ∷ 0 ∷ []) (0 ∷ 1 ∷ [])) (1 ∷ 0 ∷ []) 5 2 ∷

@@ -23,6 +23,12 @@ unfolding completed lowest count load clearᵇ groundedᵇ agreesᵇ position in
 examples =
     record {
       whole = refl;
+      nothing = refl;
+      half-a-head = refl;
+      no-method = refl;
+      no-method-cut = refl;
+      no-method-long = refl;
+      marked = refl;
       planned = refl;
       refused = refl;
       behind = refl;

@@ -4,6 +4,7 @@
 use Prim.Native.Nat.{ℕ}
 use mathlib.Core.Path.{_≡_}
 use mathlib.Core.List.{List, [], _∷_, _++_}
+use lib.ListN.{set}
 use Rattle.records.specs.Example.{input, output}
 use Rattle.responder.specs.Responses.{responseTo}
 
@@ -49,6 +50,15 @@ head h l = 72 ∷ 68 ∷ h ∷ l ∷ 0 ∷ 2 ∷ []
 
 pub record Examples : Type 0 where
   pub whole : responseTo input ≡ output
+  -- no head, and half of one: number 12, place 0
+  pub nothing : responseTo [] ≡ two 78 79 12 0
+  pub half-a-head : responseTo (72 ∷ 68 ∷ 0 ∷ []) ≡ two 78 79 12 0
+  -- no such method comes before a tail, before a missing record and before too many slabs
+  pub no-method : responseTo (two 72 68 0 4 ++ (0 ∷ [])) ≡ two 78 79 1 0
+  pub no-method-cut : responseTo (two 72 68 2 0) ≡ two 78 79 1 0
+  pub no-method-long : responseTo (72 ∷ 68 ∷ 15 ∷ 161 ∷ 0 ∷ 9 ∷ []) ≡ two 78 79 1 0
+  -- a record with another mark comes before a tail: number 12, place 1
+  pub marked : responseTo (set input 6 0 ++ (0 ∷ [])) ≡ two 78 79 12 1
   pub planned : responseTo s6 ≡ s6Lifts
   pub refused : responseTo firstOutside ≡ two 78 79 4 3
   pub behind : responseTo tail ≡ two 78 79 12 1

@@ -19,6 +19,7 @@ examples =
       cut = refl;
       marked = refl;
       now-cut = refl;
+      both-cut = refl;
       long = refl;
       with-lengths = refl;
       lengths = refl;

@@ -34,6 +34,8 @@ pub record Examples : Type 0 where
   pub marked : sheetAt (set (set input 18 78) 19 87) 0 ≡ Broken 2 4
   -- the second NW record has another mark
   pub now-cut : sheetAt (set input 10 0) 0 ≡ Broken 2 2
+  -- and the last byte is not there either: the first record that is not there counts
+  pub both-cut : sheetAt (take 21 (set input 10 0)) 0 ≡ Broken 2 2
   -- 4,001 slabs by method 1
   pub long : sheetAt (72 ∷ 68 ∷ 15 ∷ 161 ∷ 0 ∷ 1 ∷ []) 0 ≡ Long 1
   -- with lengths, in 30 bytes; without the LN records, and without the last byte
