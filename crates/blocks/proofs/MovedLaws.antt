@@ -20,6 +20,7 @@ moves_all ((a ⟶ x) ∷ q) s g w b m = by (same? b a) (λ n. moves_all q (put s
     by (inr h) rest = later (rest (λ i. m (position_unframe w.legal.0 h i)))
 
 pub careful_moves_only : (p : Plan) (s g : State) → LegalPlan s p → CarefulPlan s g p → (b : ℕ) → Moved b p → Misplaced s g b
+careful_moves_only [] s g l c b m = elim m [ ]
 careful_moves_only ((a ⟶ x) ∷ p) s g l c b first = c.0.misplaced
 careful_moves_only ((a ⟶ x) ∷ p) s g l c b (later r) = by (same? b a) (careful_moves_only p (put s a x) g l.1 c.1 b r)
   where

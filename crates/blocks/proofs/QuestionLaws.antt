@@ -143,6 +143,7 @@ first_no_same (q ∷ qs) rs rs' e = ap (λ v. cond q.test v (no' q.number q.plac
 
 -- so a number that no row has is not given
 pub other_number : (qs : List Question) (j : ℕ) → memberᵇ j (numbers qs) ≡ false → (k p : ℕ) → FirstNo qs k p → k ≢ j
+other_number [] j m k p f e = absurd f
 other_number (q ∷ qs) j m k p f e = by (eqb_reflects j q.number) m f (λ h r. other_number qs j h k p r e)
   where
     by : {t : Bool} → Reflects (j ≡ q.number) t → (t || memberᵇ j (numbers qs)) ≡ false → FirstNo (q ∷ qs) k p

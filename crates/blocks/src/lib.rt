@@ -1,1 +1,3 @@
 // The blocks world of document 01: definitions in specs/, theorems in proofs/. No code.
+
+#![tactic(auto)]

@@ -1,4 +1,7 @@
 // The next move of a run, with every tie-break, and the walk of the loop (document 01, "The three methods"; document 001, section 3).
+
+#![tactic(auto)]
+
 ghost use Rattle.std.specs.Prelude.{◌≡◌, ◌≤◌, ◌<◌, length};
 ghost use Rattle.rows.specs.Rows.{row_size, row_count, seen_of, places_of};
 ghost use Rattle.choices.specs.Choices.{Pickable, Picks};

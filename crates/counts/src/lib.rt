@@ -1,4 +1,7 @@
 // The counts of document 02, Job 1: how many ways there are to finish a state. Half of them are held (Job 7).
+
+#![tactic(auto)]
+
 ghost use Rattle.std.specs.Prelude.{◌≡◌, ◌+◌, ◌≤◌};
 ghost use Rattle.counts.specs.Ways.{ways, held};
 ghost use Rattle.counts.specs.Table.{EvenCounts};

@@ -1,4 +1,7 @@
 // The deadlock test (document 01, "The three methods", its last paragraph; document 000, section 2.2; document 001, section 3.2).
+
+#![tactic(auto)]
+
 ghost use Rattle.std.specs.Prelude.{◌≡◌, ◌+◌, ◌*◌, ◌<◌, length};
 ghost use Rattle.blocks.specs.State.{State};
 ghost use Rattle.blocks.specs.Loop.{loop, onward, blocked_rows, shown_width};

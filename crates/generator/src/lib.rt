@@ -1,10 +1,13 @@
 // The generator of training numbers (document 02, Job 1).
+
+#![tactic(auto)]
+
 ghost use Rattle.std.specs.Prelude.{◌≡◌};
 ghost use Rattle.generator.specs.Shifts.{next_seed};
 
 // C lends it too.
 #[repr(C)]
-#[derive(Drop)]
+#[derive(Clone, Copy)]
 pub struct Generator {
     pub seed: u64,
 }

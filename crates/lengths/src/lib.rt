@@ -1,4 +1,7 @@
 // The check of a sheet: questions 2 to 9, and of the slab lengths 16 to 18 (document 02, Job 3); and whether a block may rest on another.
+
+#![tactic(auto)]
+
 ghost use Rattle.std.specs.Prelude.{◌≡◌, not, ◌≤◌, length};
 ghost use Rattle.std.proofs.Math.Option.{some};
 ghost use Rattle.rows.specs.Rows.{Fresh};
@@ -12,7 +15,7 @@ use problem::Checked;
 use rows::{CHECKED, ROW};
 
 // Which lists of a sheet are given beside its states. One that is not is not looked at.
-#[derive(Drop)]
+#[derive(Clone, Copy)]
 pub struct Given {
     pub lengths: bool,
 }

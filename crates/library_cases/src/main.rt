@@ -7,6 +7,9 @@
 // The lent space holds 65535, 65534, 65533 and so on before: above every slab, and different at each place. What it holds afterwards
 // is told by the checksum of all its numbers, and then by the pairs or rows at its front, as many as the count but at most 16.
 // The program ends with the input, or at a frame that is cut short, too long or of another operation.
+
+#![tactic(auto)]
+
 ghost use Rattle.std.specs.Prelude.{◌≤◌, ◌<◌, length};
 
 use deadlocks::{Tested, WIDTH};

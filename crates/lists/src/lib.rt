@@ -1,4 +1,7 @@
 // Lists of numbers: what any crate may use and nobody must believe twice.
+
+#![tactic(auto)]
+
 ghost use Rattle.std.specs.Prelude.{◌≡◌, min, length};
 
 // Copies one list over another of the same length.

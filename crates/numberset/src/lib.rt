@@ -1,4 +1,7 @@
 // An ordered set of numbers below 4,096, in 65 words that the caller lends: put in, take out and lowest member in constant time.
+
+#![tactic(auto)]
+
 ghost use Rattle.std.specs.Prelude.{◌≡◌, false, cond, ℕ, ◌<◌, eqb, length};
 ghost use Rattle.lists.specs.Search.{lowest};
 ghost use Rattle.numberset.specs.Members.{bit, member, Valid, Empty, Assigned, limit, highest, word_count};

@@ -1,4 +1,7 @@
 // The planning program (document 01, "Records of the program"): records from standard input, records to standard output.
+
+#![tactic(auto)]
+
 ghost use Rattle.std.specs.Prelude.{◌≤◌, ◌≡◌, length, take};
 ghost use Rattle.io.specs.Counts.{IsPrefixLen};
 ghost use Rattle.responder.specs.Wanted.{wanted};

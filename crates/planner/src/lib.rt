@@ -1,4 +1,7 @@
 // Planning by the three methods (document 01, "The three methods"; document 001, section 3.2).
+
+#![tactic(auto)]
+
 ghost use Rattle.std.specs.Prelude.{◌≡◌};
 ghost use Rattle.blocks.specs.Method.{method_of};
 ghost use Rattle.lengths.specs.Checks.{sheet_of};
@@ -18,7 +21,7 @@ pub enum Planned {
 }
 
 // Document 01's methods 1, 2 and 3.
-#[derive(Drop)]
+#[derive(Clone, Copy)]
 pub enum Method {
     Us,
     Gn1,
@@ -26,7 +29,7 @@ pub enum Method {
 }
 
 // A number by which a method is asked for.
-#[derive(Drop)]
+#[derive(Clone, Copy)]
 pub enum Named {
     By(Method),
     Unknown,
@@ -45,7 +48,7 @@ pub fn method_of(number: u16) -> Named
 }
 
 // A call of planning: the method by its number, and whether it is the cabin panel's, which takes at most 600 blocks.
-#[derive(Drop)]
+#[derive(Clone, Copy)]
 pub struct Call {
     pub method: u16,
     pub panel: bool,

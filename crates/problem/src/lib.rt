@@ -1,4 +1,7 @@
 // Checking a problem (document 01, questions 2 to 9), and what a planner wants to know of it at the start.
+
+#![tactic(auto)]
+
 ghost use Rattle.std.specs.Prelude.{◌≡◌, not, ◌&&◌, ◌+◌, ◌-◌, ◌≤◌, ◌<◌, eqb, length, get_or};
 ghost use Rattle.lists.specs.Search.{pick, lowest, count};
 ghost use Rattle.blocks.specs.State.{most};

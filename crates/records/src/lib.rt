@@ -1,11 +1,14 @@
 // Records of the program (document 01, "Records of the program"; document 02, Job 3): read and written by one table of marks.
+
+#![tactic(auto)]
+
 ghost use Rattle.std.specs.Prelude.{◌≡◌, [], ◌∷◌, ◌+◌, ◌<◌, ◌≤◌, length};
 ghost use Rattle.std.proofs.lemmas.List.Edits.{sets};
 ghost use Rattle.records.specs.Marks.{row, mark_of, size};
 ghost use Rattle.records.specs.Records.{field_at, has_record, record_at, ReadEntries, field_bytes, PutRecord};
 
 // The kinds of records, by their marks.
-#[derive(Drop)]
+#[derive(Clone, Copy)]
 pub enum Kind {
     Hd,
     Nw,
@@ -18,7 +21,7 @@ pub enum Kind {
 }
 
 // A mark, high byte first, and how many fields follow it.
-#[derive(Drop)]
+#[derive(Clone, Copy)]
 pub struct Mark {
     pub high: u8,
     pub low: u8,

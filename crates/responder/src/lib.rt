@@ -1,5 +1,8 @@
 // The planning program as one function, the bytes of its input answered by the bytes of its output (document 01, "Records of the program";
 // document 02, Job 3), and another that says how much more of an input can matter.
+
+#![tactic(auto)]
+
 ghost use Rattle.std.specs.Prelude.{◌-◌, ◌≡◌};
 ghost use Rattle.sheets.specs.Sheets.{sheet_at};
 ghost use Rattle.responder.specs.Wanted.{decided_by, wanted};

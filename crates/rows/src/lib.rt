@@ -1,5 +1,7 @@
 // The most blocks of a problem, and the working lists of a run as rows of one lent array, each with an entry for the table and one for every block. No code.
 
+#![tactic(auto)]
+
 // document 01: "n at most 4,000".
 pub const MOST: usize = 4000;
 

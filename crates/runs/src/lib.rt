@@ -1,4 +1,7 @@
 // Runs of moves, each written as a pair into lent space.
+
+#![tactic(auto)]
+
 ghost use Rattle.std.specs.Prelude.{◌≡◌, ◌+◌, ◌*◌, ◌<◌, length, set};
 ghost use Rattle.runs.specs.Runs.{Steppable, Stepped, Finished};
 

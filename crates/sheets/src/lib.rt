@@ -1,5 +1,8 @@
 // One sheet's records from a place in the bytes (document 01, "Records of the program", question 12; document 02, Job 3): the head, the NW records, the GL
 // records and, behind a head HL, the LN records. What stands behind the sheet, and what is done with it, is the caller's.
+
+#![tactic(auto)]
+
 ghost use Rattle.std.specs.Prelude.{◌≡◌, ◌≤◌, ◌<◌, ◌^◌};
 ghost use Rattle.blocks.specs.State.{most};
 ghost use Rattle.sheets.specs.Sheets.{head_at, length_count, nows_at, goals_at, lengths_at, end_at};

@@ -1,5 +1,8 @@
 // All that a run keeps beside the state: which blocks are ready and which are loose, the loads, how the blocks stand, and the towers where the loop is walked.
 // `begin` fills it, `turn` keeps it through a move (document 001, section 3.4: a move changes the status of four blocks at most).
+
+#![tactic(auto)]
+
 ghost use Rattle.std.specs.Prelude.{◌≡◌, cond, ◌<◌, eqb, length, get_or};
 ghost use Rattle.rows.specs.Rows.{goal_loads_of, row_size, row_count};
 ghost use Rattle.numberset.specs.Members.{Assigned};
@@ -19,7 +22,7 @@ pub const LOOSE: usize = 1;
 pub type Sets = [[u64; WORDS]; 2];
 
 // The modes of a run: the first loop of method 1, constructive moves alone (its second loop, and the deadlock test), and methods 2 and 3.
-#[derive(Drop)]
+#[derive(Clone, Copy)]
 pub enum Mode {
     Clearing,
     Building,

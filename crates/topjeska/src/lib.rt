@@ -1,4 +1,7 @@
 // What C and Rust link: the operations with answers of plain numbers. include/topjeska.h declares them.
+
+#![tactic(auto)]
+
 ghost use Rattle.std.specs.Prelude.{◌≡◌, ◌≢◌};
 ghost use Rattle.blocks.specs.Sheet.{plain, office, panel};
 ghost use Rattle.blocks.specs.Answer.{check_answer};

@@ -1,5 +1,8 @@
 // Towers by their bottom blocks: the top of a tower, the highest block in position of a goal tower, and so the position test and the successor of a block, in
 // constant time.
+
+#![tactic(auto)]
+
 ghost use Rattle.std.specs.Prelude.{◌≡◌, not, ◌&&◌, cond, ◌-◌, ◌≤◌, ◌<◌, eqb, length, get_or};
 ghost use Rattle.rows.specs.Rows.{loads_of, goal_loads_of, row_size, row_count};
 ghost use Rattle.blocks.specs.State.{State};

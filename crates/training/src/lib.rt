@@ -1,4 +1,7 @@
 // Training sheets from a number (document 02, Job 1).
+
+#![tactic(auto)]
+
 ghost use Rattle.std.specs.Prelude.{◌≡◌, suc, ◌<◌, length};
 ghost use Rattle.lists.specs.Lists.{overwrite};
 ghost use Rattle.blocks.specs.Loop.{top};

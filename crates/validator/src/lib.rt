@@ -1,4 +1,7 @@
 // Replay of a list of moves (document 01, "What is lent and written"): linear in the blocks and the list, memory fixed.
+
+#![tactic(auto)]
+
 ghost use Rattle.std.specs.Prelude.{◌≡◌};
 ghost use Rattle.blocks.specs.Question.{first_no};
 ghost use Rattle.blocks.specs.Replay.{move_questions, lift_questions};
