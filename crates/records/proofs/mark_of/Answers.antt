@@ -1,17 +1,9 @@
 -- `mark_of` meets its contract: the table of the code is `marks`. Assumes nothing.
-use borrow.Author.Rules.{rules}
 use Rattle.std.proofs.Common.{ℕ, slice_index_or}
 use mathlib.Core.Path.{ap}
 use Rattle.records.specs.Marks.{marks, mark_of}
 use Rattle.records.specs.declared.Mark.{Mark}
-use Rattle.records.proofs.MarkLaws.{row_small}
 use Rattle.records.proofs.mark_of.Goals as goal
-
-pub offset_bounds-i : goal.offset_bounds-i
-offset_bounds-i c = search (rules, row_small)
-
-pub bounds-i-i : goal.bounds-i-i
-bounds-i-i c = search (rules, row_small)
 
 pub returns : goal.returns
 unfolding mark_of marks
