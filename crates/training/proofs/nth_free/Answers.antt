@@ -1,6 +1,5 @@
 use borrow.Author.Rules.{rules}
-use native.Mathlib.Omega.{arith}
-use Rattle.training.proofs.FindLaws.{find_begin, find_is, find_past, find_over, find_few, find_none}
+use Rattle.training.proofs.FindLaws.{find_begin, find_is, find_past, find_over, find_none}
 use Rattle.training.proofs.nth_free.Goals as goal
 
 pub loop-i-init : goal.loop-i-init
@@ -11,9 +10,6 @@ loop-i-preserved-then-not-is_free c = search (rules, find_over)
 
 pub returns-then-passed-q : goal.returns-then-passed-q
 returns-then-passed-q c = search (rules, find_is)
-
-pub overflow_add-passed : goal.overflow_add-passed
-overflow_add-passed c = record { fits = omega (arith, find_few _ _ _ c.loop-i.invariant) }
 
 pub loop-i-preserved : goal.loop-i-preserved
 loop-i-preserved c = search (rules, find_past)
