@@ -15,7 +15,7 @@ pub returns-then-out-initial : goal.returns-then-out-initial
 returns-then-out-initial c = search (rules, room_way)
 
 pub test-requires : goal.test-requires
-test-requires c = seekable c.examine-checked.ensures c.enum_told-1.given.1 sized_new (fresh_new 9) (search rules)
+test-requires c = seekable c.examine-checked.ensures c.in_default.is sized_new (fresh_new 9) (search rules)
 
 pub returns : goal.returns
 returns c = search (rules, test_way)

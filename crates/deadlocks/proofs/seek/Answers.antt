@@ -16,27 +16,17 @@ pub run-requires : goal.run-requires
 run-requires c = search (rules, first_steppable)
 
 pub lowest-requires : goal.lowest-requires
-lowest-requires c =
-    let w = c.requires in
-    loose_may w c.begin.ensures c.run.ensures
+lowest-requires c = loose_may c.requires c.begin.ensures c.run.ensures
 
 pub returns-then-lowest-eq0 : goal.returns-then-lowest-eq0
-returns-then-lowest-eq0 c =
-    let w = c.requires in
-    clean_way w c.begin.ensures c.run.ensures c.lowest.ensures c.if-lowest-eq0.true
+returns-then-lowest-eq0 c = clean_way c.requires c.begin.ensures c.run.ensures c.lowest.ensures c.if-lowest-eq0.true
 
 pub fit-requires : goal.fit-requires
-fit-requires c =
-    let w = c.requires in
-    refittable w c.begin.ensures c.run.ensures
+fit-requires c = refittable c.requires c.begin.ensures c.run.ensures
 
 pub look-requires : goal.look-requires
-look-requires c =
-    let w = c.requires in
-    lookable w c.begin.ensures c.run.ensures (c.run.auto.1.0 ∙ ap length c.begin.ensures.state) c.fit.ensures
+look-requires c = lookable c.requires c.begin.ensures c.run.ensures (c.run.auto.cur ∙ ap length c.begin.ensures.state) c.fit.ensures
 
 pub returns : goal.returns
-returns c =
-    let w = c.requires in
-    look_way w c.begin.ensures c.run.ensures (c.run.auto.1.0 ∙ ap length c.begin.ensures.state)
+returns c = look_way c.requires c.begin.ensures c.run.ensures (c.run.auto.cur ∙ ap length c.begin.ensures.state)
     c.fit.ensures c.look.ensures

@@ -21,7 +21,7 @@ pub returns-then-out-initial : goal.returns-then-out-initial
 returns-then-out-initial c = search (rules, room_way)
 
 pub solve-requires : goal.solve-requires
-solve-requires c = solvable c.examine-checked.ensures c.enum_told-in_default-checked-1.given.1 sized_new (fresh_new 9) (search rules)
+solve-requires c = solvable c.examine-checked.ensures c.in_default-checked.is sized_new (fresh_new 9) (search rules)
 
 pub returns : goal.returns
 returns c = search (rules, made_way)
