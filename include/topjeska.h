@@ -93,7 +93,7 @@ extern "C" {
  * In brackets who asks it, or of what sheets, where not all that take a sheet do; the place is 0
  * where none is named. 16, 17 and 18 are asked after 9, in that order. 19 is the panel's, and is
  * asked directly after 2. Training asks 14, 15 and 10, in that order. 12 is the planning program's
- * alone, and 13 is never answered (theorem `never-13`): no function here gives them. */
+ * alone, and 13 is never answered (theorem `never_13`): no function here gives them. */
 
 /* Is the method 1, 2 or 3? (planning) */
 #define TOPJESKA_REFUSAL_METHOD 1u
@@ -194,7 +194,7 @@ typedef struct {
 /* The count of lifts written, and `misplaced`, the count of slabs that are misplaced at the start.
  * No list that arrives has fewer lifts than that. It is the fewest lifts that could do exactly when
  * nothing is deadlocked at the start: with a deadlock every list that arrives has more (theorem
- * `head-count`). */
+ * `head_count`). */
 typedef struct {
     uint64_t refusal, place, count, misplaced;
 } topjeska_plan_answer;
@@ -232,7 +232,7 @@ topjeska_check_answer topjeska_check(const uint16_t *now, size_t now_len,
  * slab, destination. The space needs TOPJESKA_PLAN_SPACE numbers; what lies behind the pairs keeps
  * what it held. US writes as many lifts as slabs are misplaced, and one more for each of these that
  * is off the ground both now and in the goal; for the same sheet GN1 and GN2 write no more than US
- * (theorem `beside-us`). This is the yard office's entry, which takes at most TOPJESKA_MOST_SLABS
+ * (theorem `beside_us`). This is the yard office's entry, which takes at most TOPJESKA_MOST_SLABS
  * slabs. */
 topjeska_plan_answer topjeska_plan(uint16_t method, const uint16_t *now, size_t now_len,
                                    const uint16_t *goal, size_t goal_len,
@@ -241,7 +241,7 @@ topjeska_plan_answer topjeska_plan(uint16_t method, const uint16_t *now, size_t 
 /* As topjeska_plan, by the entry of the panel in the crane cabin, which takes at most
  * TOPJESKA_MOST_PANEL slabs: TOPJESKA_REFUSAL_PANEL is asked directly after
  * TOPJESKA_REFUSAL_TOO_MANY. On so many slabs or fewer both entries give equal answers and leave
- * equal space (theorem `same-answers`). */
+ * equal space (theorem `panel_same`). */
 topjeska_plan_answer topjeska_plan_panel(uint16_t method, const uint16_t *now, size_t now_len,
                                          const uint16_t *goal, size_t goal_len,
                                          uint16_t *space, size_t space_len);

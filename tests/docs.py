@@ -537,7 +537,7 @@ def classroom() -> Iterator[Test]:
     yield "CLASSROOM.md, sheet", "" if len(shown) == 1 else f"the page has {shown}"
     now, goal = sheet_of(shown.pop())
     found = len(read(planning(1, now, goal)).pairs), reading.shortest(now, goal), len(reading.misplaced(now, goal))
-    numbers = re.search(r"`length p` = (\d+), `length q` = (\d+), .* = \d+, `misplacedCount s g` = (\d+)", text)
+    numbers = re.search(r"`length p` = (\d+), `length q` = (\d+), .* = \d+, `misplaced_count s g` = (\d+)", text)
     told = tuple(map(int, numbers.groups())) if numbers else ()
     yield "CLASSROOM.md, numbers", unlike(told, found)
     yield "CLASSROOM.md, list", "" if reading.replay(now, goal, [1, 3]) == (0, 0, 0) else "1→3 does not arrive"

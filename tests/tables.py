@@ -67,7 +67,7 @@ MADE: dict[str, Callable[..., Any]] = {
     "plain": Written,
     "grounds": lambda now: Written(now, [0] * len(now)),
     "with": lambda lengths, now, goal: Written(now, goal, lengths),
-    "measuredBy": lambda lengths, now, goal: Written(now, goal, lengths),
+    "measured_by": lambda lengths, now, goal: Written(now, goal, lengths),
     "given": lambda there, lengths: lengths if there else None,
     "replicate": lambda times, entry: [entry] * times,
 }
@@ -150,18 +150,18 @@ def answer(claim: Claim) -> tuple[object, object]:
             return (number, count, flat(found)), (0, len(numbers) // WIDTH, numbers)
         case "needs", [lifts]:
             return reading.shortest(now, goal, lengths), lifts
-        case "allDown", [lifts]:
+        case "all_down", [lifts]:
             return reading.all_down(now, goal, reading.misplaced(now, goal)), lifts
         case "replays", [lifts, verdict, place]:
             return reading.replay(now, goal, lifts, lengths), (0, verdict, place)
         case "checks", [number, place]:
             return reading.check(now, goal, lengths), (number, place)
-        case ("refusesPlan" | "refusesPanel"), [method, space, number, place]:
-            most = MOST_PANEL if kind == "refusesPanel" else MOST
+        case ("refuses_plan" | "refuses_panel"), [method, space, number, place]:
+            most = MOST_PANEL if kind == "refuses_panel" else MOST
             return reading.plan(method, now, goal, space, lengths, most), (number, place, 0, 0, [])
-        case "refusesDeadlock", [space, number, place]:
+        case "refuses_deadlock", [space, number, place]:
             return reading.deadlock(now, goal, space, lengths), (number, place, 0, [])
-        case "refusesReplay", [lifts, number, place]:
+        case "refuses_replay", [lifts, number, place]:
             return reading.replay(now, goal, lifts, lengths), (number, NO_VERDICT, place)
     raise ValueError(f"no such claim: {claim}")
 
@@ -170,11 +170,11 @@ def operations(claim: Claim) -> set[str]:
     """The operations that a row is about; a refusal is about the check too."""
     refused = {"check"} if claim.kind.startswith("refuses") else set()
     match claim.kind:
-        case "gives" | "takes" | "refusesPlan" | "refusesPanel":
+        case "gives" | "takes" | "refuses_plan" | "refuses_panel":
             return {f"plan {claim.rest[0]}"} | refused
-        case "shows" | "refusesDeadlock":
+        case "shows" | "refuses_deadlock":
             return {"deadlock"} | refused
-        case "replays" | "refusesReplay":
+        case "replays" | "refuses_replay":
             return {"replay"} | refused
         case "checks":
             return {"check"}

@@ -82,7 +82,7 @@ class Plan(NamedTuple):
         return list(zip(self.numbers[::2], self.numbers[1::2]))
 
     def slabs(self) -> array:
-        """The slab of each lift: all misplaced slabs and no others (theorems `moves-all` and `Economy.only`)."""
+        """The slab of each lift: all misplaced slabs and no others (theorems `moves_all` and `Economy.only`)."""
         return self.numbers[::2]
 
 

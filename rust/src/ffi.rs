@@ -162,7 +162,7 @@ pub struct CheckAnswer {
 /// The count of lifts written, and `misplaced`, the count of slabs that are misplaced at the start.
 /// No list that arrives has fewer lifts than that. It is the fewest lifts that could do exactly when
 /// nothing is deadlocked at the start: with a deadlock every list that arrives has more (theorem
-/// `head-count`).
+/// `head_count`).
 #[repr(C)]
 #[derive(Clone, Copy, Debug, PartialEq, Eq)]
 pub struct PlanAnswer {
@@ -219,7 +219,7 @@ extern "C" {
     /// destination. The space needs `plan_space` numbers; what lies behind the pairs keeps what it
     /// held. US writes as many lifts as slabs are misplaced, and one more for each of these that is
     /// off the ground both now and in the goal; for the same sheet GN1 and GN2 write no more than US
-    /// (theorem `beside-us`). This is the yard office's entry, which takes at most `MOST_SLABS` slabs.
+    /// (theorem `beside_us`). This is the yard office's entry, which takes at most `MOST_SLABS` slabs.
     pub fn topjeska_plan(
         method: u16,
         now: *const u16,
@@ -232,7 +232,7 @@ extern "C" {
 
     /// As `topjeska_plan`, by the entry of the panel in the crane cabin, which takes at most
     /// `MOST_PANEL` slabs: `REFUSAL_PANEL` is asked directly after `REFUSAL_TOO_MANY`. On so many
-    /// slabs or fewer both entries give equal answers and leave equal space (theorem `same-answers`).
+    /// slabs or fewer both entries give equal answers and leave equal space (theorem `panel_same`).
     pub fn topjeska_plan_panel(
         method: u16,
         now: *const u16,

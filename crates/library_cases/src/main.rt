@@ -16,6 +16,8 @@ use deadlocks::{Tested, WIDTH};
 use lengths::Given;
 use planner::{Call, Planned};
 use problem::Checked;
+use std::io;
+use std::io::{Read, Stdin};
 use validator::Replayed;
 
 // Sheets without lengths.
@@ -24,45 +26,52 @@ const PLAIN: Given = Given { lengths: false };
 // What a refused replay has in place of a verdict.
 const NO_VERDICT: u16 = 65535;
 
-fn main() {
+fn main(rt: HostRuntime) -> io::Result<()> {
     let mut nums = [0u16; 28002];
     let mut space = [0u16; 16384];
     let mut chunk = [0u8; 16384];
-    run(&mut nums, &mut space, &mut chunk);
+    run(&rt, &mut nums, &mut space, &mut chunk)
 }
 
 // Nothing says that the input ends, so the loop counts its turns down, from a number that no run uses up.
-fn run(nums: &mut [u16], space: &mut [u16], chunk: &mut [u8]) {
+fn run(rt: &HostRuntime, nums: &mut [u16], space: &mut [u16], chunk: &mut [u8]) -> io::Result<()> {
     let mut turns = u64::MAX;
-    while turns > 0 && turn(nums, space, chunk) {
+    while turns > 0 && turn(rt, nums, space, chunk)? {
         turns -= 1;
     }
+    Ok(())
 }
 
 // Reads a frame and answers it; false where there is none to answer.
-fn turn(nums: &mut [u16], space: &mut [u16], chunk: &mut [u8]) -> bool {
+fn turn(
+    rt: &HostRuntime,
+    nums: &mut [u16],
+    space: &mut [u16],
+    chunk: &mut [u8],
+) -> io::Result<bool> {
+    let mut stdin = rt.stdin();
     let mut head = [0u8; 8];
-    if io::read_full(0, &mut head) != 8 {
-        return false;
+    if stdin.read_exact(&mut head).is_err() {
+        return Ok(false);
     }
     let operation = number(head[0], head[1]);
     let a = number(head[2], head[3]);
     let b = a + number(head[4], head[5]);
     let c = b + number(head[6], head[7]);
     if nums.len() < c {
-        return false;
+        return Ok(false);
     }
-    if !fill(&mut nums[0..c], chunk) {
-        return false;
+    if !fill(&mut stdin, &mut nums[0..c], chunk) {
+        return Ok(false);
     }
-    answer(operation, nums, space, a, b, c)
+    answer(rt, operation, nums, space, a, b, c)
 }
 
 // Reads as many numbers as `nums` holds; false where the input ends before.
-fn fill(nums: &mut [u16], chunk: &mut [u8]) -> bool {
+fn fill(stdin: &mut Stdin, nums: &mut [u16], chunk: &mut [u8]) -> bool {
     let mut at = 0;
     while at < nums.len() {
-        let more = fill_some(&mut nums[at..], chunk);
+        let more = fill_some(stdin, &mut nums[at..], chunk);
         if more == 0 {
             return false;
         }
@@ -72,11 +81,11 @@ fn fill(nums: &mut [u16], chunk: &mut [u8]) -> bool {
 }
 
 // Reads numbers to the front of `nums`, as many as `nums` and `chunk` hold, and answers how many; 0 where the input ends before.
-fn fill_some(nums: &mut [u16], chunk: &mut [u8]) -> usize
+fn fill_some(stdin: &mut Stdin, nums: &mut [u16], chunk: &mut [u8]) -> usize
     ensures { result ≤ length nums.old }
 {
     let k = least(nums.len(), chunk.len() / 2);
-    if io::read_full(0, &mut chunk[0..2 * k]) != 2 * k {
+    if stdin.read_exact(&mut chunk[0..2 * k]).is_err() {
         return 0;
     }
     unpack(chunk, &mut nums[0..k]);
@@ -94,31 +103,42 @@ fn unpack(bytes: &[u8], nums: &mut [u16]) {
 }
 
 // Runs one case, its lists in `nums` up to a, b and c; false where there is no such operation.
-fn answer(operation: usize, nums: &[u16], space: &mut [u16], a: usize, b: usize, c: usize) -> bool
+fn answer(
+    rt: &HostRuntime,
+    operation: usize,
+    nums: &[u16],
+    space: &mut [u16],
+    a: usize,
+    b: usize,
+    c: usize,
+) -> io::Result<bool>
     requires { (a ≤ b) × (b ≤ c) × (c ≤ length nums.now) }
 {
     if operation == 1 {
-        tell_checked(lengths::check(PLAIN, &nums[0..a], &nums[a..b], &nums[0..0]));
-        return true;
+        let checked = lengths::check(PLAIN, &nums[0..a], &nums[a..b], &nums[0..0]);
+        tell_checked(rt, checked)?;
+        return Ok(true);
     }
     if operation == 2 {
-        tell_replayed(validator::validate(
+        let replayed = validator::validate(
             PLAIN,
             &nums[0..a],
             &nums[a..b],
             &nums[0..0],
             &nums[b..c],
-        ));
-        return true;
+        );
+        tell_replayed(rt, replayed)?;
+        return Ok(true);
     }
     if c - b != 2 {
-        return false;
+        return Ok(false);
     }
     let size = lists::wide(nums[b + 1]);
     if space.len() < size {
-        return false;
+        return Ok(false);
     }
     answer_in(
+        rt,
         operation,
         nums[b],
         &nums[0..a],
@@ -129,12 +149,13 @@ fn answer(operation: usize, nums: &[u16], space: &mut [u16], a: usize, b: usize,
 
 // Runs one case of an operation with lent space; false where there is no such operation.
 fn answer_in(
+    rt: &HostRuntime,
     operation: usize,
     method: u16,
     initial: &[u16],
     goal: &[u16],
     space: &mut [u16],
-) -> bool {
+) -> io::Result<bool> {
     paint(space);
     if operation == 3 {
         let office = Call {
@@ -142,15 +163,15 @@ fn answer_in(
             panel: false,
         };
         let planned = planner::plan(office, PLAIN, initial, goal, &initial[0..0], space);
-        tell_planned(planned, space);
-        return true;
+        tell_planned(rt, planned, space)?;
+        return Ok(true);
     }
     if operation == 4 {
         let tested = deadlocks::deadlock(PLAIN, initial, goal, &initial[0..0], space);
-        tell_tested(tested, space);
-        return true;
+        tell_tested(rt, tested, space)?;
+        return Ok(true);
     }
-    false
+    Ok(false)
 }
 
 // What the lent space holds before.
@@ -163,59 +184,75 @@ fn paint(space: &mut [u16]) {
     }
 }
 
-fn tell_checked(checked: Checked) {
+fn tell_checked(rt: &HostRuntime, checked: Checked) -> io::Result<()> {
     match checked {
-        Checked::Accepted => tell_two(0, 0),
-        Checked::Refused { number, place } => tell_two(number, place),
+        Checked::Accepted => tell_two(rt, 0, 0)?,
+        Checked::Refused { number, place } => tell_two(rt, number, place)?,
     }
-    tell_end();
+    tell_end(rt)
 }
 
-fn tell_replayed(replayed: Replayed) {
+fn tell_replayed(rt: &HostRuntime, replayed: Replayed) -> io::Result<()> {
     match replayed {
-        Replayed::Refused { number, place } => tell_three(number, NO_VERDICT, place as usize),
-        Replayed::Judged { verdict, place } => tell_three(0, verdict, place),
+        Replayed::Refused { number, place } => {
+            tell_three(rt, number, NO_VERDICT, place as usize)?
+        }
+        Replayed::Judged { verdict, place } => tell_three(rt, 0, verdict, place)?,
     }
-    tell_end();
+    tell_end(rt)
 }
 
-fn tell_planned(planned: Planned, space: &[u16]) {
+fn tell_planned(rt: &HostRuntime, planned: Planned, space: &[u16]) -> io::Result<()> {
     match planned {
-        Planned::Refused { number, place } => tell_plan(number, place, 0, 0, space),
-        Planned::Made { count, misplaced } => tell_plan(0, 0, count, misplaced, space),
+        Planned::Refused { number, place } => tell_plan(rt, number, place, 0, 0, space),
+        Planned::Made { count, misplaced } => tell_plan(rt, 0, 0, count, misplaced, space),
     }
 }
 
-fn tell_plan(number: u16, place: u16, count: usize, misplaced: usize, space: &[u16]) {
-    tell_three(number, place, count);
-    tell_more(misplaced);
-    tell_space(space, 2 * least(count, 16));
-    tell_end();
+fn tell_plan(
+    rt: &HostRuntime,
+    number: u16,
+    place: u16,
+    count: usize,
+    misplaced: usize,
+    space: &[u16],
+) -> io::Result<()> {
+    tell_three(rt, number, place, count)?;
+    tell_more(rt, misplaced)?;
+    tell_space(rt, space, 2 * least(count, 16))?;
+    tell_end(rt)
 }
 
-fn tell_tested(tested: Tested, space: &[u16]) {
+fn tell_tested(rt: &HostRuntime, tested: Tested, space: &[u16]) -> io::Result<()> {
     match tested {
-        Tested::Refused { number, place } => tell_test(number, place, 0, space),
-        Tested::Free => tell_test(0, 0, 0, space),
-        Tested::Deadlocked { count } => tell_test(0, 0, count, space),
+        Tested::Refused { number, place } => tell_test(rt, number, place, 0, space),
+        Tested::Free => tell_test(rt, 0, 0, 0, space),
+        Tested::Deadlocked { count } => tell_test(rt, 0, 0, count, space),
     }
 }
 
-fn tell_test(number: u16, place: u16, count: usize, space: &[u16]) {
-    tell_three(number, place, count);
-    tell_space(space, WIDTH * least(count, 16));
-    tell_end();
+fn tell_test(
+    rt: &HostRuntime,
+    number: u16,
+    place: u16,
+    count: usize,
+    space: &[u16],
+) -> io::Result<()> {
+    tell_three(rt, number, place, count)?;
+    tell_space(rt, space, WIDTH * least(count, 16))?;
+    tell_end(rt)
 }
 
 // The checksum of the space, and so many numbers at its front.
-fn tell_space(space: &[u16], shown: usize) {
-    tell_more(checksum(space));
+fn tell_space(rt: &HostRuntime, space: &[u16], shown: usize) -> io::Result<()> {
+    tell_more(rt, checksum(space))?;
     let end = least(shown, space.len());
     let mut i = 0;
     while i < end {
-        tell_more(lists::wide(space[i]));
+        tell_more(rt, lists::wide(space[i]))?;
         i += 1;
     }
+    Ok(())
 }
 
 // The value at 65599 of the polynomial with these coefficients, the highest first, modulo the largest prime below 2^32.
@@ -236,23 +273,21 @@ fn mixed(sum: usize, number: u16) -> usize
     (sum * 65599 + number as usize) % 4294967291
 }
 
-fn tell_two(first: u16, second: u16) {
-    io::print_decimal(1, first as u64);
-    tell_more(second as usize);
+fn tell_two(rt: &HostRuntime, first: u16, second: u16) -> io::Result<()> {
+    print!(rt; "{first} {second}")
 }
 
-fn tell_three(first: u16, second: u16, third: usize) {
-    tell_two(first, second);
-    tell_more(third);
+fn tell_three(rt: &HostRuntime, first: u16, second: u16, third: usize) -> io::Result<()> {
+    tell_two(rt, first, second)?;
+    tell_more(rt, third)
 }
 
-fn tell_more(number: usize) {
-    io::write_all(1, b" ");
-    io::print_decimal(1, number as u64);
+fn tell_more(rt: &HostRuntime, number: usize) -> io::Result<()> {
+    print!(rt; " {number}")
 }
 
-fn tell_end() {
-    io::write_all(1, b"\n");
+fn tell_end(rt: &HostRuntime) -> io::Result<()> {
+    println!(rt)
 }
 
 fn number(high: u8, low: u8) -> usize

@@ -3,29 +3,30 @@
 #![tactic(auto)]
 
 ghost use Rattle.std.specs.Prelude.{◌≤◌, ◌≡◌, length, take};
-ghost use Rattle.io.specs.Counts.{IsPrefixLen};
+ghost use Rattle.plan.specs.Counts.{IsPrefixLen};
 ghost use Rattle.responder.specs.Wanted.{wanted};
 ghost use Rattle.responder.specs.Bounds.{enough};
 
-use libc::{STDIN_FILENO, STDOUT_FILENO};
 use responder::{KEPT, LONGEST_ANSWER};
+use std::io::{Read, Stdin};
 
-fn main() {
+// Where nobody reads the answer, nobody is told.
+fn main(rt: HostRuntime) {
     let mut input = [0u8; KEPT];
-    let n = read_input(&mut input);
+    let n = read_input(&mut rt.stdin(), &mut input);
     let mut out = [0u8; LONGEST_ANSWER];
     let size = responder::respond(&input[..n], &mut out);
-    io::write_all(STDOUT_FILENO, &out[..size]);
+    let _ = rt.write_all(&out[..size]);
 }
 
 // Reads the input up to where it decides the answer (`Decides` in `responder`) or ends, and says how many bytes that is.
-fn read_input(input: &mut [u8]) -> usize
+fn read_input(stdin: &mut Stdin, input: &mut [u8]) -> usize
     requires { enough ≤ length input.old }
     ensures { IsPrefixLen result input.new }
 {
     let mut n = 0;
     loop {
-        let got = read_more(input, n);
+        let got = read_more(stdin, input, n);
         if got == 0 {
             return n;
         }
@@ -35,7 +36,7 @@ fn read_input(input: &mut [u8]) -> usize
 
 // One read of what can still matter behind the first n bytes: how many came. None do where the answer is decided, where the input ends and where the
 // read fails.
-fn read_more(input: &mut [u8], n: usize) -> usize
+fn read_more(stdin: &mut Stdin, input: &mut [u8], n: usize) -> usize
     requires n_le_enough { n ≤ enough }
     requires enough_in_bounds { enough ≤ length input.old }
     ensures upper_bound { result ≤ wanted (take n input.old) }
@@ -46,6 +47,8 @@ fn read_more(input: &mut [u8], n: usize) -> usize
         return 0;
     }
     let end = n + more;
-    let part = &mut input[n..end];
-    io::count(libc::read(STDIN_FILENO, part), part)
+    match stdin.read(&mut input[n..end]) {
+        Ok(got) => got,
+        Err(_) => 0,
+    }
 }
