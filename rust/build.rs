@@ -1,4 +1,4 @@
-//! Links libtopjeska.a, from the folder that TOPJESKA_LIB_DIR names or from where `rt staticlib` writes it.
+//! Links libtopjeska.a, from the folder that TOPJESKA_LIB_DIR names or from where `tools/library` writes it.
 
 use std::path::PathBuf;
 use std::{env, process};
@@ -20,7 +20,7 @@ fn main() {
     println!("cargo:rerun-if-changed={}", library.display());
     if !library.is_file() {
         println!(
-            "cargo:warning={} is missing: `rt staticlib topjeska` writes it, TOPJESKA_LIB_DIR names another folder",
+            "cargo:warning={} is missing: `tools/library` writes it, TOPJESKA_LIB_DIR names another folder",
             library.display()
         );
     }

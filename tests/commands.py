@@ -620,14 +620,15 @@ def on_demand() -> Iterator[Test]:
         source, archive = root / "crates" / "one" / "src" / "lib.rt", root / "target" / "staticlib" / "libtopjeska.a"
         made = root / "target" / "tools" / "libtopjeska.so"
         source.parent.mkdir(parents=True)
+        (root / "crates" / "topjeska").mkdir()
         for file in (root / "crates.txt", source):
             file.touch()
             os.utime(file, (1, 1))
         builder = root / "bin" / "rt"
         builder.parent.mkdir()
         builder.write_text(
-            "#!/bin/sh\n[ \"$1 $2\" = 'staticlib topjeska' ] || exit 9\n"
-            f"mkdir -p target/staticlib && cp '{LIBRARY / 'libtopjeska.a'}' target/staticlib/\n"
+            "#!/bin/sh\n[ \"$* in ${PWD##*/}\" = 'lib in topjeska' ] || exit 9\n"
+            f"mkdir -p out && cp '{LIBRARY / 'libtopjeska.a'}' out/\n"
         )
         builder.chmod(0o755)
         around = {"PATH": f"{builder.parent}:{os.environ['PATH']}", "TOPJESKA_LIB_DIR": ""}
@@ -656,7 +657,7 @@ def on_demand() -> Iterator[Test]:
         builder.write_text("#!/bin/sh\necho not proved\nexit 1\n")
         shutil.rmtree(root / "target")
         ended = run(["sheet", "check", "2 0 / 0 1"], root=root, **around)
-        wrong = misended(ended, 2, ["the library is not built: rt ends with 1", "not proved"])
+        wrong = misended(ended, 2, ["the library is not built: tools/library ends with 1", "not proved"])
         yield "tools/sheet, a library that cannot be built", wrong
 
 

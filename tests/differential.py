@@ -783,7 +783,7 @@ def main() -> int:
     words = parser.parse_args()
     path = words.library.resolve()
     if not path.exists():
-        print(f"{path} is missing; `rt staticlib topjeska` writes the usual one\n0 passed, 1 failed")
+        print(f"{path} is missing; `tools/library` writes the usual one\n0 passed, 1 failed")
         return 1
     if path.suffix == ".a":
         path = shared_object(path, TARGET / "differential")

@@ -25,7 +25,7 @@ import topjeska  # noqa: E402
 
 INSTALLED = ("include/topjeska.h", "lib/libtopjeska.a", "lib/pkgconfig/topjeska.pc")
 # What the script needs of the path.
-COMMANDS = ("bash", "cat", "chmod", "dirname", "mkdir", "sed", "touch")
+COMMANDS = ("bash", "cat", "chmod", "cp", "dirname", "mkdir", "mv", "sed")
 NAMED = os.environ.get("TOPJESKA_LIB_DIR")
 ARCHIVE = Path(NAMED).resolve() / LIBRARY.name if NAMED else LIBRARY
 
@@ -189,6 +189,9 @@ def building(folder: Path) -> Iterator[Test]:
     root, commands = folder / "root", folder / "commands"
     shutil.copytree(INCLUDE, root / "include")
     shutil.copy(ROOT / "install", root)
+    (root / "tools").mkdir()
+    shutil.copy(ROOT / "tools" / "library", root / "tools")
+    (root / "crates" / "topjeska").mkdir(parents=True)
     commands.mkdir()
     for name in COMMANDS:
         (commands / name).symlink_to(shutil.which(name) or name)
@@ -199,14 +202,15 @@ def building(folder: Path) -> Iterator[Test]:
     scripted(rt, "exit 3")
     yield "install where rt fails", misended(run(words, root=root, **around), 1, ["is not built"])
     yield "what they leave", "" if not (folder / "built").exists() else "something was written"
-    copied = f"mkdir -p target/staticlib && cat {shlex.quote(str(ARCHIVE))} >{shlex.quote(str(made))}"
-    # It says what it is asked, and leaves a library that is there as it is.
-    said = f'echo asked; echo "$*" >>{shlex.quote(str(asked))}'
-    scripted(rt, f"{said}; [ -f {shlex.quote(str(made))} ] || {{ {copied}; }}")
+    own = f"out/{LIBRARY.name}"
+    copied = f"mkdir -p out && cat {shlex.quote(str(ARCHIVE))} >{own}"
+    # It says what it is asked and where, and leaves a library that is there as it is.
+    said = f'echo asked; echo "$* in ${{PWD##*/}}" >>{shlex.quote(str(asked))}'
+    scripted(rt, f"{said}; [ -f {own} ] || {{ {copied}; }}")
     yield "install by rt", misended(run(words, root=root, **around), 0) or unlike(
         files(folder / "built"), list(INSTALLED)
     )
-    yield "what rt is asked", unlike(asked.read_text(), "staticlib topjeska\n")
+    yield "what rt is asked", unlike(asked.read_text(), "lib in topjeska\n")
     sources = ["crates.txt", "crates/one/src/lib.rt", "crates/two/src/deep/er.rt", "crates/one/specs/Lib.antt"]
     for source in sources:
         (root / source).parent.mkdir(parents=True, exist_ok=True)
@@ -221,7 +225,7 @@ def building(folder: Path) -> Iterator[Test]:
         for time in ("once", "again"):
             ended = run(["--library"], root=root, **around)
             yield f"a newer {newer or 'nothing'}, {time}", misended(ended, 0) or unlike(
-                (ended.stdout, asked.read_text()), (f"{made}\n", "staticlib topjeska\n" * builds)
+                (ended.stdout, asked.read_text()), (f"{made}\n", "lib in topjeska\n" * builds)
             )
     os.utime(made, (2000, 2000))
     os.utime(root / sources[1], (3000, 3000))

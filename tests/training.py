@@ -267,7 +267,7 @@ def main() -> int:
     parser.add_argument("--library", type=Path, default=TARGET / "staticlib" / "libtopjeska.a")
     path = parser.parse_args().library.resolve()
     if not path.exists():
-        return counted([(str(path), "is missing; `rt staticlib topjeska` writes the usual one")])
+        return counted([(str(path), "is missing; `tools/library` writes the usual one")])
     held = held_counts(path)
     if path.suffix == ".a":
         path = shared_object(path, TARGET / "training")

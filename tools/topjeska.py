@@ -163,9 +163,8 @@ def current() -> Path:
     """The usual static library, built where it must be, with a line that says so."""
     archive = USUAL / "libtopjeska.a"
     if stale(archive):
-        say("building the library: rt staticlib topjeska (it proves what it builds; some minutes the first time)")
-        done(["rt", "staticlib", "topjeska"], "the library")
-        archive.touch()
+        say("building the library: tools/library (it proves what it builds; some minutes the first time)")
+        done(["tools/library"], "the library")
     return archive
 
 
