@@ -23,7 +23,7 @@ use Rattle.blocks.specs.SheetDemands.{Plannable, Testable, PanelLimits}
 use Rattle.blocks.specs.Sheets.{Limits}
 use Rattle.blocks.proofs.MethodLaws.{method_written}
 use Rattle.blocks.proofs.DeadlockTestLaws as tests
-use Rattle.blocks.proofs.DeadlockTestLaws.{rows_length}
+use Rattle.blocks.proofs.DeadlockTestLaws.{rows_size}
 use Rattle.blocks.proofs.DeadlockToldLaws.{deadlock_told}
 use Rattle.blocks.proofs.FlatLaws.{length-flat, pairs_back}
 use Rattle.blocks.proofs.SheetLaws.{behind_late, check_accepts, check_refuses, plan_accepts, plan_refusal, room_no, beyond_limit, beyond_most}
@@ -54,10 +54,6 @@ plan_answers c h space w p e =
       ap₂ (λ v o. planned v h.initial (goal_state h) (plan_of o)) yes-all e,
       ap₂ (λ v o. written v (flat (plan_of o)) space) yes-all e ∙ ap (λ k. flat p ++ drop k space) (length-flat p),
     )
-
-rows_size : (s g : State) → length (deadlock_rows s g) ≡ shown_width * length (deadlock_loop s g)
-unfolding deadlock_rows
-rows_size s g = rows_length (built s g) g (deadlock_loop s g)
 
 pub deadlock_answers : (h : Sheet) (space : List ℕ) → Testable h space
     → (deadlock_answer h space ≡ record { number = 0; place = 0; count = length (deadlock_loop h.initial (goal_state h)) })

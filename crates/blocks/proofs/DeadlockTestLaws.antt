@@ -158,3 +158,8 @@ module _ {s g : State} (p : Problem s g) where
 pub deadlock_fits : (s g : State) → Problem s g → length (deadlock_rows s g) ≤ shown_width * length s
 unfolding deadlock_rows
 deadlock_fits s g p = omega (arith, rows_length (built s g) g (deadlock_loop s g), deadlock_short p)
+
+-- how many numbers the rows have
+pub rows_size : (s g : State) → length (deadlock_rows s g) ≡ shown_width * length (deadlock_loop s g)
+unfolding deadlock_rows
+rows_size s g = rows_length (built s g) g (deadlock_loop s g)

@@ -11,14 +11,11 @@ use Rattle.blocks.specs.Question.{None, AllYes}
 use Rattle.blocks.specs.Length.{Lengths, length_of, Fits, FittingPlan, Overhangs, Level, MeasuredIf}
 use Rattle.blocks.specs.Length.{fitsᵇ, asks_lengths, overhangsᵇ, first_overhang, asks_overhang, overhang_questions, length_questions}
 use Rattle.lists.proofs.ReflectLaws.{Reflects, not-not, reflects_not, reflects_or, eqb_reflects, leb_reflects}
+use Rattle.blocks.proofs.FitsLaws.{fits_test}
 use Rattle.blocks.proofs.StateLaws.{supported_block}
 use Rattle.blocks.proofs.QuestionLaws.{Decided, Decides, asks_decided, none_decided}
 
 -- ---- the rule
-
-pub fits_test : (l : List ℕ) (a x : ℕ) → Reflects (Fits (some l) a x) (fitsᵇ l a x)
-unfolding fitsᵇ
-fits_test l a x = reflects_or (eqb_reflects x 0) (leb_reflects (length_of l a) (length_of l x))
 
 -- the table takes any block
 pub fits_table : (ls : Lengths) (a : ℕ) → Fits ls a 0

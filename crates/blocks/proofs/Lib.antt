@@ -3,7 +3,9 @@ pub mod FrameLaws
 pub mod TowerLaws
 pub mod GroundLaws
 pub mod ClearLaws
+pub mod AgreesLaws
 pub mod PositionLaws
+pub mod PositionedLaws
 pub mod NearestLaws
 pub mod DeadlockLaws
 pub mod MisplacedLaws
@@ -22,10 +24,13 @@ pub mod DeadlockTestLaws
 pub mod DeadlockToldLaws
 pub mod QuestionLaws
 pub mod DecidedLaws
+pub mod FitsLaws
 pub mod LengthLaws
 pub mod GoalStateLaws
 pub mod ReplayLaws
 pub mod FlatLaws
+pub mod LimitLaws
+pub mod AskedLaws
 pub mod SheetLaws
 pub mod AnsweredLaws
 pub mod BesideUsLaws

@@ -4,7 +4,6 @@ use mathlib.Core.Logic.{◌⊎◌, inl, inr}
 use mathlib.Core.Bool.{Bool, true, false, cond}
 use Prim.Native.Nat.{ℕ, zero, suc, ◌+◌, ◌≤◌, ◌<◌}
 use native.Mathlib.Omega.{arith}
-use native.Mathlib.Nat.{le_of_suc-le-suc}
 use lib.ListN.{length}
 use Rattle.blocks.specs.State.{State, Block, support, put, down, Clear}
 use Rattle.blocks.specs.Position.{Proper, Problem, InPosition, Misplaced, in_position, misplaced_above}
@@ -12,6 +11,7 @@ use Rattle.blocks.specs.Move.{Legal, Constructive}
 use Rattle.blocks.specs.Tests.{agreesᵇ, tower_agreesᵇ, first_right, position, is_right, in_positionᵇ, misplacedᵇ, waitingᵇ, readyᵇ, perchedᵇ}
 use Rattle.blocks.specs.Stall.{Perched, Waiting}
 use Rattle.lists.proofs.ReflectLaws.{Reflects, not-not, decided, reflects_not, reflects_and, reflects_iff, eqb_reflects, leb_reflects}
+use Rattle.blocks.proofs.AgreesLaws.{tower_test}
 use Rattle.blocks.proofs.StateLaws.{support_outside, same_supports, down_suc, down_add, down_table, down_more}
 use Rattle.blocks.proofs.GroundLaws.{ground_bound}
 use Rattle.blocks.proofs.ClearLaws.{clear_test}
@@ -68,42 +68,6 @@ position_moved {s} {g} {a} {x} c =
     position_on (support_moved c.legal ∙ c.home) (rw (support_moved c.legal) (position_frame c.legal c.legal.apart c.position))
 
 -- ---- the tests
-
--- every block is on the table after so many steps
-pub all_down_lem : (s : State) → Proper s → (b : ℕ) → down s (suc (length s)) b ≡ 0
-all_down_lem s p b = ground_bound s p.entries (support s b) (p.entries b) (p.grounded (support s b))
-
-abbrev Agrees : State → State → ℕ → ℕ → Type 0
-Agrees s g k b = (j : ℕ) → j ≤ k → support s (down s j b) ≡ support g (down s j b)
-
-agrees_reflects : (s g : State) (k b : ℕ) → Reflects (Agrees s g k b) (agreesᵇ s g k b)
-unfolding agreesᵇ
-agrees_reflects s g zero b = reflects_iff only (λ h. h 0 (omega arith)) (eqb_reflects (support s b) (support g b))
-  where
-    only : support s b ≡ support g b → Agrees s g 0 b
-    only e zero l = e
-    only e (suc j) l = absurd (omega (arith, l))
-agrees_reflects s g (suc k) b =
-    reflects_iff both (λ h. (h 0 (omega arith), λ j l. h (suc j) (omega arith)))
-    (reflects_and (eqb_reflects (support s b) (support g b)) (agrees_reflects s g k (support s b)))
-  where
-    both : (support s b ≡ support g b) × Agrees s g k (support s b) → Agrees s g (suc k) b
-    both h zero l = h.0
-    both h (suc j) l = h.1 j (le_of_suc-le-suc l)
-
--- the test of the whole tower
-pub tower_test : (s g : State) → Proper s → (b : ℕ) → Reflects (InPosition s g b) (tower_agreesᵇ s g b)
-tower_test s g p b = reflects_iff far (λ i j l. i.agrees j) (agrees_reflects s g (length s) b)
-  where
-    beyond : (k : ℕ) → length s < k → down s k b ≡ 0
-    beyond k l = down_more s (suc (length s)) k b l (all_down_lem s p b)
-
-    far : Agrees s g (length s) b → InPosition s g b
-    far h = record { agrees = λ k. at k (decided (leb_reflects k (length s))) }
-      where
-        at : (k : ℕ) → (k ≤ length s) ⊎ (¬ (k ≤ length s)) → support s (down s k b) ≡ support g (down s k b)
-        at k (inl l) = h k l
-        at k (inr n) = let z : down s k b ≡ 0 = beyond k (omega (arith, n)) in ap (support s) z ∙ ap (support g) (sym z)
 
 -- it decides which of its two answers the position test gives
 pub position_test : (s g : State) → Proper s → (b : ℕ) → Reflects (InPosition s g b) (in_positionᵇ s g b)

@@ -24,7 +24,7 @@ use Rattle.lists.proofs.SearchLaws.{lowest_zero, lowest_found, lowest_absent, lo
 use Rattle.blocks.proofs.StateLaws.{length-put}
 use Rattle.blocks.proofs.ClearLaws.{clear_test}
 use Rattle.blocks.proofs.QuestionLaws.{Decides, asks_decided, first_no_lem, decides_append, all_yes_append, sentence_append, other_number}
-use Rattle.blocks.proofs.LengthLaws.{fits_test}
+use Rattle.blocks.proofs.FitsLaws.{fits_test}
 
 -- ---- questions whose places are 0
 

@@ -30,68 +30,8 @@ use Rattle.blocks.proofs.DecidedLaws.{method_decided, size_decided, room_decided
 use Rattle.blocks.proofs.LengthLaws.{plan_fits, lengths_decides, lengths_yes}
 use Rattle.blocks.proofs.GoalStateLaws.{completed_same, bounded}
 use Rattle.blocks.proofs.ReplayLaws.{replay_verdict, replay_arrives}
-
--- ---- the questions put to a sheet
-
-limit_decides : (limit : Option ℕ) (n : ℕ) → Decides (limit_questions limit n)
-unfolding limit_questions asks_limit
-limit_decides none n = tt
-limit_decides (some limit) n = (asks_decided (leb_reflects n limit), λ _. tt)
-
-limit_yes : (limit : Option ℕ) (n : ℕ) → AllYes (limit_questions limit n) ↔ Takes limit n
-unfolding limit_questions asks_limit
-limit_yes none n = (λ y. tt, λ t. tt)
-limit_yes (some limit) n = (λ y. y.0, λ t. (t, tt))
-
-module _ (h : Sheet) where
-  -- what is asked after 19: of the lists, and of what else the sheet has
-  abbrev rest : List Question
-  rest = list_questions h.initial h.goal ++ length_questions h.lengths h.initial h.goal
-
-  rest_decides : Decides rest
-  rest_decides =
-      decides_append (list_questions h.initial h.goal) _ (list_decides h.initial h.goal) (λ _. lengths_decides h.lengths h.initial h.goal)
-
-  rest_yes : AllYes rest ↔ (Problem h.initial h.goal × MeasuredIf h.lengths h.initial h.goal)
-  rest_yes =
-      Iff.trans (all_yes_append (list_questions h.initial h.goal) _)
-      (Iff.and (list_yes h.initial h.goal) (lengths_yes h.lengths h.initial h.goal))
-
-module _ (limit : Option ℕ) (h : Sheet) where
-  pub sheet_decides : Decides (sheet_questions limit h)
-  unfolding sheet_questions
-  sheet_decides =
-      let n = length h.initial in
-      (size_decided n, λ _. decides_append (limit_questions limit n) (rest h) (limit_decides limit n) (λ _. rest_decides h))
-
-  pub sheet_yes : AllYes (sheet_questions limit h) ↔ (Takes limit (length h.initial) × Accepted h)
-  unfolding asks_size sheet_questions
-  sheet_yes =
-      let both = Iff.trans (all_yes_append (limit_questions limit (length h.initial)) (rest h)) (Iff.and (limit_yes limit (length h.initial)) (rest_yes h)) in (
-        λ y. let z = both.0 y.1 in (z.0, record { small = y.0; problem = z.1.0; measured = z.1.1 }),
-        λ a. (a.1.small, both.1 (a.0, (a.1.problem, a.1.measured))),
-      )
-
-numbers_append : (qs rs : List Question) → numbers (qs ++ rs) ≡ numbers qs ++ numbers rs
-numbers_append [] rs = refl
-numbers_append (q ∷ qs) rs = ap (λ l. q.number ∷ l) (numbers_append qs rs)
-
-limit_order : (limit : Option ℕ) (n : ℕ) → numbers (limit_questions limit n) ≡ when limit (19 ∷ [])
-unfolding limit_questions asks_limit
-limit_order none n = refl
-limit_order (some limit) n = refl
-
-length_order : (ls : Lengths) (s g : State) → numbers (length_questions ls s g) ≡ when ls (16 ∷ 17 ∷ 18 ∷ [])
-unfolding length_questions overhang_questions asks_lengths asks_overhang
-length_order none s g = refl
-length_order (some l) s g = refl
-
-pub sheet_order : (limit : Option ℕ) (h : Sheet) → numbers (sheet_questions limit h) ≡ sheet_numbers limit h.lengths
-unfolding sheet_questions list_questions state_questions asks_size asks_same asks_outside asks_shared asks_floating
-sheet_order limit h =
-    ap (λ l. 2 ∷ l)
-    (numbers_append (limit_questions limit (length h.initial)) _
-    ∙ ap₂ (λ k l. k ++ (3 ∷ 4 ∷ 5 ∷ 6 ∷ 7 ∷ 8 ∷ 9 ∷ l)) (limit_order limit (length h.initial)) (length_order h.lengths h.initial h.goal))
+use Rattle.blocks.proofs.LimitLaws.{limit_decides, limit_yes}
+pub use Rattle.blocks.proofs.AskedLaws.{rest, rest_decides, rest_yes, sheet_decides, sheet_yes, numbers_append, sheet_order}
 
 -- the numbers that are given out, and those of a sheet among them
 abbrev pub all_numbers : List ℕ

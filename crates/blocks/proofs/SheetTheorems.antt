@@ -14,7 +14,8 @@ use Rattle.blocks.specs.SheetDemands.{Plannable, SheetTheorems}
 use Rattle.blocks.proofs.MethodLaws.{method_written}
 use Rattle.blocks.proofs.PromiseLaws as promises
 use Rattle.blocks.proofs.PromiseLaws.{Arrival, promised}
-use Rattle.blocks.proofs.LengthLaws.{fits_test, careful_fits}
+use Rattle.blocks.proofs.FitsLaws.{fits_test}
+use Rattle.blocks.proofs.LengthLaws.{careful_fits}
 use Rattle.blocks.proofs.GoalStateLaws.{bounded, goal_state_level, solves_arrives, arrives_solves}
 use Rattle.blocks.proofs.ReplayLaws as replays
 use Rattle.blocks.proofs.SheetLaws as sheets

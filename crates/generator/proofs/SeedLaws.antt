@@ -1,4 +1,4 @@
--- The next seed has 64 bits, and is zero where the seed is zero alone.
+-- The next seed is zero where the seed is zero alone.
 -- Idea: exclusive or takes a number away by itself alone, and a number that equals its own shift is shifted out. Assumes nothing.
 use mathlib.Core.Path.{◌≡◌, refl, sym, ap, ◌∙◌}
 use mathlib.Core.Logic.{◌≢◌}
@@ -7,22 +7,6 @@ use native.Mathlib.Omega.{arith}
 use native.Mathlib.Nat.{mod-lt, add-mul, mul_assoc, mul_right_comm, div-add-mod', mul-add-mod_self_right, mul-mod_left}
 use lib.Bits.{bit_xor, xor_add_and, and_le_l, and_le_r, xor_lt}
 use Rattle.generator.specs.Shifts.{xor_left, xor_right, next_seed}
-
--- ---- 64 bits
-
-left_fits : (k x : ℕ) → x < 2 ^ 64 → xor_left k x < 2 ^ 64
-unfolding xor_left
-left_fits k x h = xor_lt 64 x (x * 2 ^ k % 2 ^ 64) h (mod-lt (x * 2 ^ k) (omega arith))
-
-right_fits : (x : ℕ) → x < 2 ^ 64 → xor_right 7 x < 2 ^ 64
-unfolding xor_right
-right_fits x h = xor_lt 64 x (x / 2 ^ 7) h (omega arith)
-
-pub next_fits : (x : ℕ) → x < 2 ^ 64 → next_seed x < 2 ^ 64
-unfolding next_seed
-next_fits x h = left_fits 17 (xor_right 7 (xor_left 13 x)) (right_fits (xor_left 13 x) (left_fits 13 x h))
-
--- ---- not zero
 
 xor_same : (a b : ℕ) → bit_xor a b ≡ 0 → a ≡ b
 xor_same a b e = omega (arith, xor_add_and a b, and_le_l a b, and_le_r a b)

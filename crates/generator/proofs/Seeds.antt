@@ -4,7 +4,8 @@ use mathlib.Core.Logic.{◌≢◌}
 use Prim.Native.Nat.{ℕ, zero, suc, ◌<◌, ◌^◌}
 use Rattle.generator.specs.Shifts.{xor_left, xor_right, next_seed, seed_after}
 use Rattle.generator.specs.Seeds.{Lasting, draws, AllDrawn}
-use Rattle.generator.proofs.SeedLaws.{next_fits, next_some}
+use Rattle.generator.proofs.FitLaws.{next_fits}
+use Rattle.generator.proofs.SeedLaws.{next_some}
 
 after_fits : (k x : ℕ) → x < 2 ^ 64 → seed_after k x < 2 ^ 64
 unfolding seed_after

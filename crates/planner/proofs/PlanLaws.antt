@@ -33,6 +33,7 @@ use Rattle.lengths.specs.Checks.{Examines}
 use Rattle.lengths.proofs.ExamineLaws.{accepted, refused_by}
 use Rattle.runs.proofs.LentLaws.{unvisited}
 use Rattle.planner.specs.Answers.{answer_of, as_method, named_as, call_of, beyondᵇ, Plans, Solvable, Ran, Solved}
+use Rattle.planner.proofs.BeyondLaws.{beyond_no, beyond_yes}
 use Rattle.planner.specs.declared.Call as calls
 use Rattle.planner.specs.declared.Method as declared
 use Rattle.planner.specs.declared.Named.{Named}
@@ -78,20 +79,6 @@ is_method_lem m = (method_decided m).decides
 
 pub unknown_way : (call : Call) (h : Sheet) (space : List ℕ) {r : Named} → named_as r ≡ method_of call.method → r ≡ Unknown → Plans call h space (Refused 1 0) space
 unknown_way call h space e u = refusal 1 0 (method_no call h space (from_false (is_method_lem call.method) (ap is_method (sym e ∙ ap named_as u))))
-
--- ---- the entry
-
-beyond_test : (n : ℕ) → Reflects ((n ≤ most) × (panel_most < n)) (leb n most && ltb panel_most n)
-beyond_test n = reflects_and (leb_reflects n most) (ltb_reflects panel_most n)
-
--- question 19 is answered no, or 2 is, or neither
-beyond_no : (panel : Bool) (n : ℕ) → beyondᵇ panel n ≡ true → (n ≤ most) × (¬ Takes (cond panel (some panel_most) none) n)
-beyond_no false n e = let z : ◌≡◌ {A = ℕ} 0 1 = ap (λ t. cond t 1 0) e in absurd (omega arith)
-beyond_no true n e = let w = from_true (beyond_test n) e in (w.0, λ l. omega (arith, w.1, l))
-
-beyond_yes : (panel : Bool) (n : ℕ) → beyondᵇ panel n ≡ false → n ≤ most → Takes (cond panel (some panel_most) none) n
-beyond_yes false n e l = tt
-beyond_yes true n e l = not-not (leb_reflects n panel_most) (λ h. from_false (beyond_test n) e (l, omega (arith, h)))
 
 -- ---- what is written is told by the method's words, and keeps the promise
 

@@ -20,7 +20,8 @@ use Rattle.blocks.proofs.StateLaws.{length-put, support_at, down_add}
 use Rattle.blocks.proofs.FrameLaws.{support_moved, position_frame, position_unframe, moved_clear, moved_block, problem_moved}
 use Rattle.blocks.proofs.TowerLaws.{Reaches, tower_chain, clear_beneath}
 use Rattle.blocks.proofs.PositionLaws.{position_test, position_down, position_beneath, position_moved, misplaced_block}
-use Rattle.blocks.proofs.NearestLaws.{nearest_is, nearest_only, nearest_alike}
+use Rattle.blocks.proofs.NearestLaws.{nearest_is, nearest_only}
+use Rattle.blocks.proofs.PositionedLaws.{nearest_alike}
 use Rattle.blocks.proofs.StepLaws.{moves_legal, moves_misplaced, moves_landed}
 use Rattle.rows.specs.Rows.{Yard, store, Sized, goal_bottoms_of, highs_of, Within}
 use Rattle.rows.proofs.RowLaws.{stored, within_none, within_store}
