@@ -95,6 +95,7 @@ const TABLE: [u64; 81] = [
 ];
 
 // The count for n loose towers and k grounded ones: held where n is even, else by one step of the rule.
+#[tactic(auto, using(crate::proofs::StepLaws::product_fits, crate::proofs::StepLaws::sum_fits, crate::proofs::StepLaws::others_most, crate::proofs::StepLaws::odd_count))]
 pub fn count_of(n: usize, k: usize) -> u64
     requires { n + k ≤ held }
     ensures { result ≡ ways n k }
@@ -111,6 +112,7 @@ pub fn count_of(n: usize, k: usize) -> u64
 }
 
 // The table, and what it holds.
+#[tactic(auto, using(crate::proofs::TableLaws::carried))]
 fn even_counts() -> [u64; 81]
     ensures { EvenCounts result }
 {

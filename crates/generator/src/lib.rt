@@ -34,6 +34,7 @@ impl Generator {
 }
 
 // The seed after one draw.
+#[tactic(auto, unfolding(crate::specs::Shifts::next_seed, crate::specs::Shifts::xor_left, crate::specs::Shifts::xor_right))]
 fn next_seed(seed: u64) -> u64
     ensures { result ≡ next_seed seed }
 {

@@ -10,6 +10,7 @@ ghost use Rattle.numberset.specs.Members.{bit, member, Valid, Empty, Assigned, l
 pub const WORDS: usize = 65;
 
 // Makes the set empty.
+#[tactic(auto, using(crate::proofs::MemberLaws::clear_more, crate::proofs::MemberLaws::cleared))]
 pub fn clear(set: &mut [u64])
     requires { length set.old ≡ word_count }
     ensures { Empty set.new }
@@ -33,6 +34,7 @@ pub fn assign(set: &mut [u64], x: usize, on: bool)
 }
 
 // A word with bit i set or cleared.
+#[tactic(auto, using(crate::proofs::DigitLaws::word_put, crate::proofs::DigitLaws::word_take))]
 fn with_bit(w: u64, i: u32, on: bool) -> u64
     requires { i < 64 }
     ensures { (j : ℕ) → bit result j ≡ cond (eqb j i) on (bit w j) }
@@ -42,6 +44,7 @@ fn with_bit(w: u64, i: u32, on: bool) -> u64
 }
 
 // The lowest member from 1 on; 0 where there is none. 0 itself is no member.
+#[tactic(auto, using(crate::proofs::MemberLaws::lowest_nothing, crate::proofs::MemberLaws::lowest_found))]
 pub fn lowest(set: &[u64]) -> usize
     requires { Valid set.now × (member set.now 0 ≡ false) }
     ensures { result ≡ lowest (member set.now) highest }

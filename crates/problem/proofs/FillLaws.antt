@@ -1,6 +1,6 @@
 -- Filling the loads of a state (question 5): a list of zeros, the test of one entry, and what the loop knows after i entries. Assumes nothing.
 use Prim.Native.Nat.{ℕ, zero, suc, ◌+◌, ◌*◌, ◌≤◌, ◌<◌}
-use mathlib.Core.Path.{◌≡◌, refl, sym, ap, ◌∙◌}
+use mathlib.Core.Path.{◌≡◌, refl, sym, ap, ◌∙◌, subst}
 use mathlib.Core.Bool.{Bool, true, false, not, ◌&&◌}
 use mathlib.Core.List.{List}
 use mathlib.Core.Logic.{◌⊎◌, inl, inr}
@@ -107,7 +107,9 @@ module _ {s : State} {l₀ l : List ℕ} {n i x : ℕ} (w : Filling s l₀ n l i
             sym (w.at x low entry_le) ∙ eqb-true (get_or l x 0) 0 (not-false (eqb (get_or l x 0) 0) shut)
 
         go : (b : ℕ) → 1 ≤ b → b ≤ length s → (b ≡ x) ⊎ (¬ (b ≡ x)) → get_or (set l x (suc i)) b 0 ≡ lowest (λ c. eqb (support s c) b) (suc i)
-        go b low high (inl q) = rw (q, free (omega arith), eq-eqb (get_or s i 0) x (sym e)) (get_or-set_same l x (suc i) 0 entry_in)
+        go b low high (inl q) =
+            subst (λ (z : ℕ). get_or (set l x (suc i)) z 0 ≡ lowest (λ c. eqb (support s c) z) (suc i)) (sym q)
+            (rw (free (omega arith), eq-eqb (get_or s i 0) x (sym e)) (get_or-set_same l x (suc i) 0 entry_in))
         go b low high (inr m) =
             rw (ne_eqb (get_or s i 0) b (λ q. m (sym q ∙ sym e)))
             (get_or-set_other l x b (suc i) 0 m ∙ (w.at b low high ∙ or_none (lowest (λ c. eqb (support s c) b) i)))

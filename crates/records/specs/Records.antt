@@ -1,5 +1,5 @@
 -- Records, read and written (document 01, "Records of the program"). Assumes nothing.
-use Rattle.std.specs.Prelude.{ℕ, zero, suc, ◌+◌, ◌*◌, ◌/◌, ◌%◌, ◌≡◌, Bool, true, false, ◌&&◌, List, [], ◌∷◌, ◌++◌, leb, ltb, eqb, length, get_or, take, drop}
+use Rattle.std.specs.Prelude.{ℕ, zero, suc, ◌+◌, ◌*◌, ◌/◌, ◌%◌, ◌≡◌, Bool, true, false, ◌&&◌, List, [], ◌∷◌, leb, ltb, eqb, length, get_or, take}
 use Rattle.lists.specs.Search.{pick}
 use Rattle.lists.specs.Lists.{overwrite, overwrite_at}
 use Rattle.records.specs.Marks.{mark_of, size}

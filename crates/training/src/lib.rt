@@ -150,6 +150,7 @@ fn place(s: &mut [u16], load: &mut [u16], m: usize, p: Progress) -> Progress
 }
 
 // Number q of the tops of the towers other than b's, in ascending order.
+#[tactic(auto, using(crate::proofs::TopLaws::picked_by))]
 fn pick_top(s: &[u16], load: &[u16], b: usize, q: usize) -> usize
     requires { Known s.now load.now b }
     ensures { result ≡ picked s.now b q }

@@ -67,7 +67,7 @@ module _ {h : Sheet} {c : case.Checked} {y y' : Yard} (w : Examines h c y y') wh
   pub followable : {list : List ℕ} → c ≡ case.TheVariants.Accepted → length list % 2 ≡ 0 → Followable h h.initial list (loads_of y')
   followable e z =
       let a = accepted w.checks e in
-      record { small = a.small; proper = a.problem.initial; same = a.problem.same; counted = counted h.lengths h.initial h.goal a.decreases; even = z; loads = (w.known e).loads }
+      record { small = a.small; proper = a.problem.initial; same = a.problem.same; counted = counted h.lengths h.initial h.goal a.measured; even = z; loads = (w.known e).loads }
 
   pub judged_way : {list : List ℕ} {r : Replayed} → c ≡ case.TheVariants.Accepted → length list % 2 ≡ 0 → Follows h list r → Replays h list r
   judged_way {list} e z f = replays (f.judged ∙ sym ((replay_accepts h list).1 (record { accepted = accepted w.checks e; even = z }))) (rw f.judged f.answer)

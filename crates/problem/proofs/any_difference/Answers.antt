@@ -1,0 +1,14 @@
+use borrow.Author.Rules.{rules}
+use Rattle.lists.proofs.ScanLaws.{sweep_begin, sweep_next, sweep_end}
+use Rattle.blocks.specs.Answer.{first_difference}
+use Rattle.problem.proofs.any_difference.Goals as goal
+
+pub loop-i-init : goal.loop-i-init
+loop-i-init c = search (rules, sweep_begin)
+
+pub loop-i-preserved : goal.loop-i-preserved
+loop-i-preserved c = search (rules, sweep_next)
+
+pub returns : goal.returns
+unfolding first_difference
+returns c = search (rules, sweep_end)

@@ -1,0 +1,10 @@
+-- `taken` meets its contract: x is the table, which is never taken, or the entry of x decides. Assumes nothing.
+use Rattle.problem.proofs.FillLaws.{table_free, block_taken}
+use borrow.Author.Rules.{rules}
+use Rattle.problem.proofs.taken.Goals as goal
+
+pub returns-then-x-eq0 : goal.returns-then-x-eq0
+returns-then-x-eq0 c = search (rules, table_free)
+
+pub returns : goal.returns
+returns c = search (rules, block_taken)

@@ -1,0 +1,7 @@
+-- `topjeska_plan_with` meets its contract: the answer of the library, in numbers. Assumes nothing.
+use borrow.Author.Rules.{rules}
+use Rattle.topjeska.proofs.ExportLaws.{plan_exported}
+use Rattle.topjeska.proofs.topjeska_plan_with.Goals as goal
+
+pub returns : goal.returns
+returns c = search (rules, plan_exported)
