@@ -35,6 +35,8 @@ DECISIONS = ROOT / "docs" / "DECISIONS.md"
 SPECIFICATION = ROOT / "docs" / "SPECIFICATION.md"
 PICTURES = ROOT / "docs" / "pictures"
 THEOREMS = ("crates/blocks/specs/Demands.antt", "crates/blocks/specs/SheetDemands.antt")
+# The modules of theorems and of tables.
+OWN_NAMES = ("Demands", "SheetDemands", "Sheets")
 SEARCHED = 7
 
 REFERENCE = re.compile(r"`([^`\s]+)`, `(crates/[^`:]+):(\d+)(?:-(\d+))?`")
@@ -394,12 +396,18 @@ class Names:
 
 
 def stray_theorems(cell: str, names: Names) -> list[str]:
-    """The names with a hyphen that stand neither in a file of theorems nor in the module named before them."""
+    """The names of several words that stand neither in a file of theorems nor in the module named before them.
+
+    Those of functions of the sources and of tables may stand alone.
+    """
     module, stray = "", []
+    other = {function for _, function in names.functions}.union(*(names.modules[home] for home in OWN_NAMES))
     for name in TICKED.findall(cell):
         first, dot, last = name.rpartition(".")
         module = first if dot else module
-        if "-" in last and last not in names.theorems and last not in names.modules.get(module, ()):
+        if "::" in name or name in other or not re.search("[-_]", last):
+            continue
+        if last not in names.theorems and last not in names.modules.get(module, ()):
             stray.append(name)
     return stray
 

@@ -1,6 +1,6 @@
 """Holds README.md to what it speaks of.
 
-What its commands print, the lines that build and install a program in C, rt's last lines with the count of crates, the
+What its commands print, the lines that build and install a program in C, the last lines of what builds, the
 commands for a desk and their options, every path and every crate; and that the gate runs all files of tests. The last
 line is 'N passed, M failed'.
 """
@@ -62,33 +62,27 @@ def printed(command: str, right: str, cwd: Path = ROOT) -> str:
 
 def samples() -> Iterator[Test]:
     """The list of the first sheet, and the bytes of the planning program."""
-    yield "a list", printed(block("rt check plan && tools/sheet plan ").partition(" && ")[2], block("at least "))
+    yield "a list", printed(block("tools/library plan && tools/sheet plan ").partition(" && ")[2], block("at least "))
     if (ROOT / "target" / "bin" / "plan").is_file():
         yield "the program's bytes", printed(block("tools/sheet records "), block(" 50 4c"))
     else:
-        print("there is no target/bin/plan here: rt check plan builds it")
+        print("there is no target/bin/plan here: tools/library plan builds it")
     yield "the program's input", lacking(section("The planning program"), [f"at most {KEPT:,} bytes"])
 
 
 def crates() -> dict[str, list[str]]:
     """What each crate stands on."""
-    lines = re.findall(r"^(\w+):(.*)$", (ROOT / "crates.txt").read_text(encoding="utf-8"), re.M)
+    lines = re.findall(r"^(\w+)(?: staticlib)?:(.*)$", (ROOT / "crates.txt").read_text(encoding="utf-8"), re.M)
     return {crate: others.split() for crate, others in lines}
 
 
-def proofs() -> Iterator[Test]:
-    """The last lines of rt, the seconds left open; its count is of the project's own crates."""
-    own = crates()
-    count = 1 + sum(other in own for other in own["plan"])
-    right = [
-        "rt: plan proved (N s)",
-        "rt: plan ran as nobody, and wrote what its file 'stdout' has (N s)",
-        f"rt: ok, {count} crates proved",
-    ]
-    yield "rt check plan", unlike(re.sub(r"\(\d+ s\)", "(N s)", block("rt: plan")).splitlines(), right)
-    library = "rt: target/staticlib/libtopjeska.a has the functions of topjeska that are marked"
-    yield "rt staticlib", unlike(block("rt: target"), f'{library} #[no_mangle] pub extern "C"\n')
-    yield "rt staticlib topjeska", unlike(block("rt staticlib"), "rt staticlib topjeska\n")
+def builds() -> Iterator[Test]:
+    """What tools/library is asked, and the last lines of what it says, a file that it wrote."""
+    script = (ROOT / "tools" / "library").read_text(encoding="utf-8")
+    for place, made in (("target/staticlib/libtopjeska.a",) * 2, ("target/bin/$1", "target/bin/plan")):
+        yield f"tools/library, {made}", lacking(script, [f' "{place}"\n', 'echo "wrote $2"'])
+        yield f"the last line, {made}", unlike(block(f"wrote {made}"), f"wrote {made}\n")
+    yield "tools/library", unlike(block("tools/library\n"), "tools/library\n")
 
 
 # ---- programs in C
@@ -194,7 +188,7 @@ def gate() -> Iterator[Test]:
 
 def tests() -> Iterator[Test]:
     """All tests."""
-    for group in (samples, proofs, versions, desk, paths, layout, gate):
+    for group in (samples, builds, versions, desk, paths, layout, gate):
         yield from group()
     for group in (built, installed):
         with tempfile.TemporaryDirectory() as folder:
