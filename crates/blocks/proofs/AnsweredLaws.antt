@@ -7,12 +7,11 @@ use Prim.Native.Nat.{ℕ, zero, suc, ◌+◌, ◌*◌, ◌≤◌}
 use native.Mathlib.Omega.{arith}
 use lib.ListN.{length, take, drop}
 use lib.Seq.{take-append_seam, take_at}
-use Rattle.blocks.specs.State.{State}
 use Rattle.blocks.specs.Position.{Problem}
 use Rattle.blocks.specs.Move.{Plan}
 use Rattle.blocks.specs.Tests.{misplaced_count}
 use Rattle.blocks.specs.Loop.{shown_width}
-use Rattle.blocks.specs.Method.{Method, Us, Gn1, Gn2, plan, built, deadlock_loop, deadlock_rows, method_of, number_of, outcome_by, plan_of, plan_outcome}
+use Rattle.blocks.specs.Method.{Method, Us, Gn1, Gn2, plan, deadlock_loop, deadlock_rows, method_of, number_of, outcome_by, plan_of, plan_outcome}
 use Rattle.blocks.specs.Question.{all_yes, first_no, IsMethod, asks_size, asks_room}
 use Rattle.blocks.specs.Steps.{By, ByTest}
 use Rattle.blocks.specs.Sheet.{Sheet, goal_state, Accepted, Call, office, panel, sheet_questions, plan_questions, deadlock_questions, Refused, DeadlockRefused}

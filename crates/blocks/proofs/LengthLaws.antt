@@ -8,9 +8,9 @@ use lib.ListN.{length}
 use Rattle.blocks.specs.State.{State, support, put}
 use Rattle.blocks.specs.Move.{◌⟶◌, Plan, CarefulPlan}
 use Rattle.blocks.specs.Question.{None, AllYes}
-use Rattle.blocks.specs.Length.{Lengths, length_of, Fits, FittingPlan, Overhangs, Level, MeasuredIf}
-use Rattle.blocks.specs.Length.{fitsᵇ, asks_lengths, overhangsᵇ, first_overhang, asks_overhang, overhang_questions, length_questions}
-use Rattle.lists.proofs.ReflectLaws.{Reflects, not-not, reflects_not, reflects_or, eqb_reflects, leb_reflects}
+use Rattle.blocks.specs.Length.{Lengths, Fits, FittingPlan, Overhangs, Level, MeasuredIf}
+use Rattle.blocks.specs.Length.{asks_lengths, overhangsᵇ, first_overhang, asks_overhang, overhang_questions, length_questions}
+use Rattle.lists.proofs.ReflectLaws.{Reflects, not-not, reflects_not, eqb_reflects}
 use Rattle.blocks.proofs.FitsLaws.{fits_test}
 use Rattle.blocks.proofs.StateLaws.{supported_block}
 use Rattle.blocks.proofs.QuestionLaws.{Decided, Decides, asks_decided, none_decided}

@@ -1,8 +1,7 @@
 -- Question 19, of an entry with a limit. Assumes nothing.
 use mathlib.Core.Logic.{◌↔◌}
 use mathlib.Core.Option.{Option, none, some}
-use Prim.Native.Nat.{ℕ, ◌≤◌, ◌<◌}
-use native.Mathlib.Omega.{arith}
+use Prim.Native.Nat.{ℕ}
 use Rattle.blocks.specs.Question.{AllYes, asks_limit, limit_questions}
 use Rattle.blocks.specs.Sheet.{Takes}
 use Rattle.lists.proofs.ReflectLaws.{leb_reflects}

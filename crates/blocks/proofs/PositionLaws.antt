@@ -1,6 +1,5 @@
 -- Laws of in position and of the tests that methods ask: each test is true exactly where its notion holds. Assumes nothing.
 use mathlib.Core.Path.{◌≡◌, refl, sym, ap, ◌∙◌, subst}
-use mathlib.Core.Logic.{◌⊎◌, inl, inr}
 use mathlib.Core.Bool.{Bool, true, false, cond}
 use Prim.Native.Nat.{ℕ, zero, suc, ◌+◌, ◌≤◌, ◌<◌}
 use native.Mathlib.Omega.{arith}
@@ -8,12 +7,11 @@ use lib.ListN.{length}
 use Rattle.blocks.specs.State.{State, Block, support, put, down, Clear}
 use Rattle.blocks.specs.Position.{Proper, Problem, InPosition, Misplaced, in_position, misplaced_above}
 use Rattle.blocks.specs.Move.{Legal, Constructive}
-use Rattle.blocks.specs.Tests.{agreesᵇ, tower_agreesᵇ, first_right, position, is_right, in_positionᵇ, misplacedᵇ, waitingᵇ, readyᵇ, perchedᵇ}
+use Rattle.blocks.specs.Tests.{tower_agreesᵇ, first_right, position, is_right, in_positionᵇ, misplacedᵇ, waitingᵇ, readyᵇ, perchedᵇ}
 use Rattle.blocks.specs.Stall.{Perched, Waiting}
-use Rattle.lists.proofs.ReflectLaws.{Reflects, not-not, decided, reflects_not, reflects_and, reflects_iff, eqb_reflects, leb_reflects}
+use Rattle.lists.proofs.ReflectLaws.{Reflects, not-not, reflects_not, reflects_and, reflects_iff, eqb_reflects, leb_reflects}
 use Rattle.blocks.proofs.AgreesLaws.{tower_test}
-use Rattle.blocks.proofs.StateLaws.{support_outside, same_supports, down_suc, down_add, down_table, down_more}
-use Rattle.blocks.proofs.GroundLaws.{ground_bound}
+use Rattle.blocks.proofs.StateLaws.{support_outside, same_supports, down_suc, down_add, down_table}
 use Rattle.blocks.proofs.ClearLaws.{clear_test}
 use Rattle.blocks.proofs.FrameLaws.{support_moved, position_frame}
 

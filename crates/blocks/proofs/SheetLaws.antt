@@ -16,18 +16,18 @@ use Rattle.blocks.specs.Loop.{memberᵇ, shown_width}
 use Rattle.blocks.specs.Method.{Method, plan, outcome_by, method_of, plan_outcome, deadlock_loop, deadlock_rows}
 use Rattle.blocks.specs.Question.{Question, Asked, all_yes, no', first_no, AllYes, FirstNo, numbers, IsMethod, asks_method, asks_size, asks_same}
 use Rattle.blocks.specs.Question.{asks_outside, asks_shared, asks_floating, asks_room, asks_even, asks_plan, asks_limit, limit_questions, state_questions, list_questions, problem_questions}
-use Rattle.blocks.specs.Length.{Lengths, MeasuredIf, asks_lengths, asks_overhang, overhang_questions, length_questions}
+use Rattle.blocks.specs.Length.{Lengths, asks_lengths, asks_overhang, overhang_questions, length_questions}
 use Rattle.blocks.specs.Sheet.{Sheet, plain, goal_state, Arrives, Accepted, Call, office, Takes}
 use Rattle.blocks.specs.Sheet.{sheet_questions, plan_questions, deadlock_questions, replay_questions, Refused, PlanRefused, DeadlockRefused, ReplayRefused}
 use Rattle.blocks.specs.Replay.{move_questions, fit_questions, lift_questions, Replayed}
 use Rattle.blocks.specs.Answer.{flat, moves, checked, planned, written, plan_for, tested, replayed, no_verdict}
 use Rattle.blocks.specs.Answer.{check_answer, plan_answer, plan_space, deadlock_answer, deadlock_space, replay_from, replay_answer}
-use Rattle.blocks.specs.SheetDemands.{when, sheet_numbers, Plannable, Testable, Replayable, AsBefore, SameLists, SameAnswers, RefusedBy}
+use Rattle.blocks.specs.SheetDemands.{sheet_numbers, Plannable, Testable, Replayable, AsBefore, SameLists, SameAnswers, RefusedBy}
 use Rattle.lists.proofs.ReflectLaws.{Reflects, holds, fails, leb_reflects}
 use Rattle.blocks.proofs.MethodLaws.{method_written}
-use Rattle.blocks.proofs.QuestionLaws.{Decides, asks_decided, first_no_lem, decides_append, all_yes_append, sentence_append, first_no_append, first_no_same, Among, among_append, number_among}
-use Rattle.blocks.proofs.DecidedLaws.{method_decided, size_decided, room_decided, even_decided, plan_decided, list_decides, list_yes}
-use Rattle.blocks.proofs.LengthLaws.{plan_fits, lengths_decides, lengths_yes}
+use Rattle.blocks.proofs.QuestionLaws.{Decides, first_no_lem, decides_append, all_yes_append, sentence_append, first_no_append, first_no_same, Among, among_append, number_among}
+use Rattle.blocks.proofs.DecidedLaws.{method_decided, room_decided, even_decided, plan_decided}
+use Rattle.blocks.proofs.LengthLaws.{plan_fits}
 use Rattle.blocks.proofs.GoalStateLaws.{completed_same, bounded}
 use Rattle.blocks.proofs.ReplayLaws.{replay_verdict, replay_arrives}
 use Rattle.blocks.proofs.LimitLaws.{limit_decides, limit_yes}

@@ -86,7 +86,7 @@ module _ {s g : State} {a x : ℕ} (p : Problem s g) where
   moves_careful (Moves.builds c) = record { misplaced = c.misplaced; target = inr c.home }
   moves_careful (Moves.clears w e) = record { misplaced = w.0.0; target = inl e }
 
-  -- a put_down takes exactly 1 from the measure, and every move takes some
+  -- a put-down takes exactly 1 from the measure, and every move takes some
   pub clears_measure : Perched s g a → x ≡ 0 → measure s g ≡ suc (measure (put s a x) g)
   clears_measure w e =
       subst (λ y. measure s g ≡ suc (measure (put s a y) g)) (sym e) (measure_table p (perched_legal p w) w.0.0 w.1)

@@ -10,7 +10,7 @@ use lib.Seq.{sets, length-sets, take-suc, take_all, length-take-le}
 use Rattle.rows.specs.Rows.{Yard}
 use Rattle.blocks.specs.State.{State}
 use Rattle.blocks.specs.Position.{Problem, Misplaced}
-use Rattle.blocks.specs.Deadlock.{wrap, next}
+use Rattle.blocks.specs.Deadlock.{wrap}
 use Rattle.blocks.specs.Stall.{Waiting, IsLoop}
 use Rattle.blocks.specs.Tests.{nearest}
 use Rattle.blocks.specs.Loop.{blocker, successor, loop, onward, blocked_rows, shown_width}

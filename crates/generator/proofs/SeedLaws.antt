@@ -2,10 +2,10 @@
 -- Idea: exclusive or takes a number away by itself alone, and a number that equals its own shift is shifted out. Assumes nothing.
 use mathlib.Core.Path.{◌≡◌, refl, sym, ap, ◌∙◌}
 use mathlib.Core.Logic.{◌≢◌}
-use Prim.Native.Nat.{ℕ, ◌+◌, ◌*◌, ◌/◌, ◌%◌, ◌^◌, ◌<◌}
+use Prim.Native.Nat.{ℕ, ◌+◌, ◌*◌, ◌/◌, ◌%◌, ◌^◌}
 use native.Mathlib.Omega.{arith}
-use native.Mathlib.Nat.{mod-lt, add-mul, mul_assoc, mul_right_comm, div-add-mod', mul-add-mod_self_right, mul-mod_left}
-use lib.Bits.{bit_xor, xor_add_and, and_le_l, and_le_r, xor_lt}
+use native.Mathlib.Nat.{add-mul, mul_assoc, mul_right_comm, div-add-mod', mul-add-mod_self_right, mul-mod_left}
+use lib.Bits.{bit_xor, xor_add_and, and_le_l, and_le_r}
 use Rattle.generator.specs.Shifts.{xor_left, xor_right, next_seed}
 
 xor_same : (a b : ℕ) → bit_xor a b ≡ 0 → a ≡ b

@@ -2,13 +2,12 @@
 use Prim.Native.Nat.{ℕ, zero, suc, ◌*◌, ◌≤◌, ◌<◌}
 use mathlib.Core.Path.{◌≡◌, refl, sym, ap, ap₂, ◌∙◌, subst}
 use mathlib.Core.Logic.{◌≢◌}
-use mathlib.Core.Bool.{Bool, true, false, ◌&&◌, cond}
+use mathlib.Core.Bool.{Bool, true, false}
 use mathlib.Core.List.{List}
 use mathlib.Core.Option.{none, some}
 use native.Mathlib.Omega.{arith}
-use lib.Dec.{leb, ltb}
 use lib.ListN.{length, take}
-use Rattle.lists.proofs.ReflectLaws.{Reflects, from_true, from_false, not-not, reflects_and, leb_reflects, ltb_reflects}
+use Rattle.lists.proofs.ReflectLaws.{Reflects, from_true, from_false}
 use Rattle.lists.proofs.WriteLaws.{overwrite_front}
 use Rattle.rows.specs.Rows.{Yard, row_count, Fresh, Sized}
 use Rattle.rows.proofs.RowLaws.{sized_within}
@@ -19,7 +18,7 @@ use Rattle.blocks.specs.Method.{Method, plan, method_of, outcome_by, plan_of, pl
 use Rattle.blocks.specs.Steps as words
 use Rattle.blocks.specs.Question.{all_yes, first_no, IsMethod, is_method, asks_method}
 use Rattle.blocks.specs.Length.{Lengths}
-use Rattle.blocks.specs.Sheet.{Sheet, measured_by, goal_state, Arrives, Accepted, Call, panel_most, Takes, plan_questions, PlanRefused}
+use Rattle.blocks.specs.Sheet.{Sheet, measured_by, goal_state, Arrives, Accepted, Call, Takes, plan_questions, PlanRefused}
 use Rattle.blocks.specs.Answer.{flat, moves, planned, written, plan_answer, plan_space}
 use Rattle.blocks.specs.Demands.{HeadCount, Promise}
 use Rattle.blocks.proofs.FlatLaws.{pairs_back, length-flat}

@@ -8,11 +8,10 @@ use native.Mathlib.Omega.{arith}
 use native.Mathlib.Numerals.{add-one}
 use borrow.Author.Tests.{ltb-false, eqb-true, not-false, eq-eqb, ne_eqb}
 use lib.Dec.{ltb, eqb}
-use lib.ListN.{length, get_or, set, length-set, get_or-eq_default}
+use lib.ListN.{length, get_or, set, length-set}
 use lib.Seq.{get_or-set_same, get_or-set_other}
 use mir.Syntax.{w64}
 use mir.Val.{Fits}
-use Rattle.lists.specs.Lists.{Zeros}
 use Rattle.problem.specs.Known.{Fillable, Filled}
 use Rattle.blocks.specs.State.{State, most, support}
 use Rattle.lists.specs.Search.{lowest, or_else}
@@ -20,7 +19,7 @@ use Rattle.blocks.specs.Tests.{load}
 use Rattle.blocks.specs.Question.{outsideᵇ, first_outside, sharedᵇ, first_shared}
 use Rattle.lists.proofs.ScanLaws.{Scanned, scan_begin, scan_next, scan_found, scan_none}
 use Rattle.lists.proofs.SearchLaws.{lowest_none}
-use Rattle.lists.proofs.ReflectLaws.{decided, ltb_reflects, same?}
+use Rattle.lists.proofs.ReflectLaws.{same?}
 
 -- ---- the test of one entry
 

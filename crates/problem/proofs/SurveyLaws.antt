@@ -12,7 +12,7 @@ use mir.Syntax.{w16}
 use mir.Val.{Fits}
 use Rattle.rows.specs.Rows.{Yard, row, Within}
 use Rattle.rows.proofs.RowLaws.{row_set, row_beside, within_none, within_set, within_then, within_wider}
-use Rattle.blocks.specs.State.{State, most, support}
+use Rattle.blocks.specs.State.{State, most}
 use Rattle.lists.specs.Search.{lowest}
 use Rattle.blocks.specs.Question.{Asked, all_yes, no', first_no, outsideᵇ, first_outside, sharedᵇ, first_shared, floatingᵇ, first_floating}
 use Rattle.blocks.specs.Question.{asks_outside, asks_shared, asks_floating, state_questions}

@@ -1,5 +1,5 @@
 -- A row that is stored is read back; the others, and the number of rows and their lengths, stay. Assumes nothing.
-use Prim.Native.Nat.{ℕ, zero, suc, ◌+◌, ◌*◌, ◌≤◌, ◌<◌}
+use Prim.Native.Nat.{ℕ, zero, suc, ◌*◌, ◌≤◌, ◌<◌}
 use mathlib.Core.Path.{◌≡◌, refl, sym, ap, ◌∙◌}
 use mathlib.Core.Logic.{◌⊎◌, inl, inr, ◌≢◌}
 use mathlib.Core.List.{List, []}
@@ -9,7 +9,6 @@ use lib.Seq.{get_or-set_same, get_or-set_other}
 use mir.Syntax.{w64}
 use mir.Val.{Fits}
 use Rattle.lists.proofs.ReflectLaws.{decided, ltb_reflects, same?}
-use Rattle.blocks.specs.State.{most}
 use Rattle.rows.specs.Rows.{Yard, row, store, row_count, Fresh, Sized, Within, row_size}
 
 -- an index into a row fits where entries of two bytes are counted

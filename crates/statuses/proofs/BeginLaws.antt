@@ -1,8 +1,8 @@
 -- The start of a run: what is known of the blocks of an accepted problem, the towers and the sets from it, and all of it together. Assumes nothing.
-use Prim.Native.Nat.{ℕ, zero, suc, ◌≤◌, ◌<◌}
+use Prim.Native.Nat.{ℕ, zero, suc, ◌≤◌}
 use mathlib.Core.Path.{◌≡◌, refl, sym, ap, ◌∙◌}
 use mathlib.Core.Logic.{◌≢◌}
-use mathlib.Core.Bool.{Bool, true, false, not, cond, true≢false}
+use mathlib.Core.Bool.{Bool, true, not, cond, true≢false}
 use mathlib.Core.List.{List}
 use native.Mathlib.Omega.{arith}
 use borrow.Author.Tests.{not-true}
@@ -19,7 +19,7 @@ use Rattle.problem.specs.Known.{Standings}
 use Rattle.towers.specs.Towers.{Stands, Fillable, Filled, Climbable, Climbed}
 use Rattle.towers.specs.Linked.{Known}
 use Rattle.statuses.specs.Modes.{walksᵇ}
-use Rattle.statuses.specs.Kept.{Sets, Fittable, Fitted, Kept, Beginnable, Begun}
+use Rattle.statuses.specs.Kept.{Sets, Fittable, Fitted, Beginnable, Begun}
 use Rattle.statuses.specs.declared.Mode.{Mode}
 use Rattle.statuses.proofs.TestLaws.{table_stands}
 

@@ -15,7 +15,6 @@ use Rattle.blocks.proofs.ClearLaws.{load_block, load_is}
 use Rattle.numberset.specs.Members.{member, Valid, Assigned, limit}
 use Rattle.rows.specs.Rows.{Yard, goal_loads_of, ready_of, loose_of, row_size}
 use Rattle.rows.proofs.RowLaws.{row_set, row_beside}
-use Rattle.towers.specs.Linked.{Known}
 use Rattle.statuses.specs.Modes.{looseᵇ}
 use Rattle.statuses.specs.Reads.{ready_in, loose_in}
 use Rattle.statuses.specs.Kept.{Sets, Offerable, Admissible, Refreshable, Refreshed, Moving}

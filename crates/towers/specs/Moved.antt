@@ -1,5 +1,5 @@
 -- The rows before and after a move of block a to x. Assumes nothing.
-use Rattle.std.specs.Prelude.{ℕ, ◌-◌, ◌≤◌, ◌<◌, ◌≡◌, cond, List, eqb, length, get_or, set}
+use Rattle.std.specs.Prelude.{ℕ, ◌-◌, ◌≤◌, ◌<◌, cond, List, eqb, length, get_or, set}
 use Rattle.rows.specs.Rows.{Yard, store, Sized, bottoms_of, tops_of, goal_bottoms_of, Within}
 use Rattle.blocks.specs.State.{State, most, put}
 use Rattle.blocks.specs.Position.{Proper}
