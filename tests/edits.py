@@ -3,7 +3,7 @@
 Without words: tries all of them, in a copy of the project, as `rt must-fail` tries a crate's own; some
 minutes. With names of crates: those of these crates.
 --check: that each still fits the sources, so that none grows stale unseen: the text that it replaces
-stands there once. Its last line is 'N passed, M failed'.
+stands once in what its earlier replacements made. Its last line is 'N passed, M failed'.
 """
 
 import shutil
@@ -17,18 +17,20 @@ EDITS = ROOT / "tests" / "edits"
 
 
 def misfits(edit: Path) -> list[str]:
-    """What the edit replaces and does not stand once in its file."""
+    """What the edit replaces and does not stand once in its file, as the edit has made it up to there."""
     crate = ROOT / "crates" / edit.parent.name
-    file = crate / "src" / "lib.rt"
-    wrong = []
-    for line in edit.read_text().splitlines():
-        if line.startswith("file:"):
-            file = crate / line.removeprefix("file:").strip()
+    file, old, texts, wrong = crate, "", {}, []
+    for line in edit.read_text(encoding="utf-8").splitlines():
+        if line.startswith("file: "):
+            file = crate / line.removeprefix("file: ").strip()
+            if file not in texts:
+                texts[file] = file.read_text(encoding="utf-8") if file.is_file() else ""
         elif line.startswith("old: "):
             old = line.removeprefix("old: ")
-            text = file.read_text() if file.exists() else ""
-            if text.count(old) != 1 and text.splitlines().count(old) != 1:
+            if texts.get(file, "").count(old) != 1:
                 wrong.append(f"{file.relative_to(ROOT)} has not once: {old}")
+        elif line.startswith("new:") and file in texts:
+            texts[file] = texts[file].replace(old, line.removeprefix("new:").removeprefix(" "))
     return wrong
 
 
