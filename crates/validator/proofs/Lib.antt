@@ -1,4 +1,5 @@
 pub mod FaultLaws
+pub mod BadLaws
 pub mod LiftLaws
 pub mod FollowLaws
 pub mod ValidateLaws

@@ -1,6 +1,7 @@
 -- `lift_fault` meets its contract: a law for each way out. Assumes nothing.
 use borrow.Author.Rules.{rules}
-use Rattle.validator.proofs.LiftLaws.{bad_move, unmeasured, lift_within, long, fitting}
+use Rattle.validator.proofs.BadLaws.{bad_move}
+use Rattle.validator.proofs.LiftLaws.{unmeasured, lift_within, long, fitting}
 use Rattle.validator.proofs.lift_fault.Goals as goal
 
 pub returns-then-bad-ne0 : goal.returns-then-bad-ne0
