@@ -7,7 +7,7 @@ usage: tools/spell_names.py [--list]      at the top of the repository; --list p
 - Lemmas: a dash joins the name of a function on lists and that of a definition, as in `length-put`; all else is joined with '_'.
 - In the name of a lemma, a definition of the library or the repository stands as it is spelled today.
 - Types, modules and what the sources name in Rust keep their names, as do the exports, strings, inputs and outputs.
-A new name that stands anywhere already is not taken: a lemma keeps its dashes there.
+A lemma that would have its definition's name has '_lem' behind it. Names that fall together otherwise are told by a line 'look:'.
 """
 import collections
 import glob
