@@ -1,5 +1,5 @@
 pub mod ReflectLaws
 pub mod SearchLaws
 pub mod ScanLaws
-pub mod CopyLaws
 pub mod WriteLaws
+pub mod NonzeroLaws

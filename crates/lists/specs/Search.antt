@@ -1,6 +1,6 @@
 -- Searching and counting over the numbers 1 to n. The tie-break "lowest-numbered" of document 01 is `lowest`, here and nowhere else.
 -- Assumes nothing.
-use Rattle.std.specs.Prelude.{ℕ, zero, suc, ◌+◌, ◌≤◌, ◌<◌, Bool, true, false}
+use Rattle.std.specs.Prelude.{ℕ, zero, suc, ◌+◌, ◌≤◌, ◌<◌, Bool, true, false, Option, Some, None}
 
 -- x where the test passed, 0 where it failed.
 abbrev pub pick : Bool → ℕ → ℕ
@@ -16,6 +16,11 @@ or_else (suc x) y = suc x
 unfoldable pub lowest : (ℕ → Bool) → ℕ → ℕ
 lowest P zero = 0
 lowest P (suc n) = or_else (lowest P n) (pick (P (suc n)) (suc n))
+
+-- A number for which 0 says none, as the code answers it.
+abbrev pub nonzero : ℕ → Option ℕ
+nonzero zero = None
+nonzero (suc x) = Some (suc x)
 
 -- How many numbers from 1 to n pass the test.
 unfoldable pub count : (ℕ → Bool) → ℕ → ℕ
