@@ -69,12 +69,12 @@ unreached_is {s} {g} {st} e w =
 -- ---- the ways out
 
 -- a question whose place is a block is answered no, one with place 0 yes
-no_at : (k : ℕ) {p : ℕ} (q : ℕ) (rest : Asked) → Some p ≡ nonzero q → no' k p ≡ cond (eqb q 0) rest (no' k q)
+pub no_at : (k : ℕ) {p : ℕ} (q : ℕ) (rest : Asked) → Some p ≡ nonzero q → no' k p ≡ cond (eqb q 0) rest (no' k q)
 no_at k {p} q rest e =
     let is : q ≡ p = some_is q (sym e) in
     ap (no' k) (sym is) ∙ ap (λ t. cond t rest (no' k q)) (sym (ne_eqb q 0 (λ z. some_nonzero q (sym e) (sym is ∙ z))))
 
-yes_at : (k q : ℕ) (rest : Asked) → None ≡ nonzero q → rest ≡ cond (eqb q 0) rest (no' k q)
+pub yes_at : (k q : ℕ) (rest : Asked) → None ≡ nonzero q → rest ≡ cond (eqb q 0) rest (no' k q)
 yes_at k q rest e = ap (λ t. cond t rest (no' k q)) (sym (eq-eqb q 0 (none_zero q (sym e))))
 
 module _ {s g : State} {y : Yard} {ld : ℕ} (v : Surveyable s g y ld) where
