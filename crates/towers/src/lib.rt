@@ -4,7 +4,7 @@
 #![tactic(auto)]
 
 ghost use Rattle.std.specs.Prelude.{◌≡◌, not, ◌&&◌, cond, ◌-◌, ◌≤◌, ◌<◌, eqb, length, get_or};
-ghost use Rattle.rows.specs.Rows.{loads_of, goal_loads_of, row_size, row_count};
+ghost use Rattle.rows.specs.Rows.{loads_of, goal_loads_of, row_size};
 ghost use Rattle.blocks.specs.State.{State};
 ghost use Rattle.blocks.specs.Position.{Misplaced};
 ghost use Rattle.blocks.specs.Tests.{position, nearest};
@@ -179,7 +179,7 @@ pub fn find(yard: &Yard, b: usize) -> Blocked
 
 // c where something rests on it, else what rests on c in the goal: for the table that is r, the bottom of the goal tower asked for.
 fn in_the_way(yard: &Yard, r: usize, c: usize) -> usize
-    requires { (length yard.now ≡ row_count) × (c < row_size) }
+    requires { c < row_size }
     ensures { result ≡ cond (not (eqb c 0) && not (eqb (get_or (loads_of yard.now) c 0) 0)) c (cond (eqb c 0) r (get_or (goal_loads_of yard.now) c 0)) }
 {
     if problem::taken(&yard[LOADS], c) {

@@ -1,5 +1,5 @@
 use borrow.Author.Rules.{rules}
-use Rattle.towers.proofs.WalkLaws.{sink_begin, sink_next, sink_less, sink_end}
+use Rattle.towers.proofs.WalkLaws.{sink_next, sink_less, sink_end}
 use Rattle.towers.proofs.bottom_of.Goals as goal
 
 pub returns-then-x-eq0 : goal.returns-then-x-eq0

@@ -1,7 +1,7 @@
 use borrow.Author.Rules.{rules}
 use Rattle.rows.proofs.RowLaws.{scaled}
 use Rattle.std.proofs.Common.{◌+◌, arith}
-use Rattle.towers.proofs.FillLaws.{Walking, walking_begin, walking_skip, walking_next, walking_end, next_standing, next_markable, bottom_small}
+use Rattle.towers.proofs.FillLaws.{Walking, walking_skip, walking_next, walking_end, next_markable, bottom_small}
 use Rattle.towers.proofs.fill_towers.Goals.{Joined-yard-loads-eq0, then-yard-loads-eq0, else-yard-loads-eq0}
 use Rattle.towers.proofs.fill_towers.Goals as goal
 
@@ -18,8 +18,8 @@ bounds-yard-r c = search (rules, bottom_small)
 further : (c : Joined-yard-loads-eq0) → Walking c.args.s.now c.args.loads c.args.bottoms c.args.yard.now (c.loop-b.b + 1) c.if-yard-loads-eq0.yard
 further c =
     elim c.if-yard-loads-eq0.branch [
-      then-yard-loads-eq0 w ↦ rw w.yard-is (search (rules, walking_next))
-    | else-yard-loads-eq0 w ↦ rw w.yard-is (search (rules, walking_skip))
+      | then-yard-loads-eq0 w ↦ rw w.yard-is (search (rules, walking_next))
+      | else-yard-loads-eq0 w ↦ rw w.yard-is (search (rules, walking_skip))
     ]
 
 pub loop-b-preserved : goal.loop-b-preserved

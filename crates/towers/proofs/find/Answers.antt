@@ -14,7 +14,7 @@ pub bounds-yard-b : goal.bounds-yard-b
 bounds-yard-b c = search (rules, asked_in)
 
 pub in_the_way-by-requires : goal.in_the_way-by-requires
-in_the_way-by-requires c = (search rules, search (rules, above_is, high_in))
+in_the_way-by-requires c = search (rules, above_is, high_in)
 
 pub offset_bounds-yard-by : goal.offset_bounds-yard-by
 offset_bounds-yard-by c = search (rules, scaled, above_is, way_in)

@@ -1,5 +1,5 @@
 use borrow.Author.Rules.{rules}
-use Rattle.towers.proofs.WalkLaws.{seek_begin, seek_low, seek_next, seek_less, seek_end}
+use Rattle.towers.proofs.WalkLaws.{seek_begin, seek_next, seek_less}
 use Rattle.towers.proofs.first_in_position.Goals as goal
 
 pub loop-c-init : goal.loop-c-init

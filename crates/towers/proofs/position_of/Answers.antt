@@ -1,7 +1,6 @@
 -- `position_of` meets its contract: a law for each of its two answers. Assumes nothing.
 use borrow.Author.Rules.{rules}
-use Rattle.rows.proofs.RowLaws.{scaled}
-use Rattle.towers.proofs.FindLaws.{ask_in, right_way, wrong_way, ask_root}
+use Rattle.towers.proofs.FindLaws.{right_way, wrong_way, ask_root}
 use Rattle.towers.proofs.position_of.Goals as goal
 
 pub returns-then-in_position : goal.returns-then-in_position

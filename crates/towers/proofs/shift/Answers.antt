@@ -1,6 +1,6 @@
 -- `shift` meets its contract: the three stores make the rows of the state after the move. Assumes nothing.
 use borrow.Author.Rules.{rules}
-use Rattle.towers.proofs.ShiftLaws.{old_in, old_fits, left_within, left_scaled, joined_within, joined_scaled, joined_fits, shifted_rows}
+use Rattle.towers.proofs.ShiftLaws.{left_within, left_scaled, joined_within, joined_scaled, joined_fits, shifted_rows}
 use Rattle.towers.proofs.shift.Goals as goal
 
 pub offset_bounds-yard-left : goal.offset_bounds-yard-left
