@@ -78,16 +78,9 @@ module _ (k : Kind) {m : Mark} (e : m ≡ mark_of k) where
   pub fields_small : m.fields ≤ 2
   fields_small = omega (arith, fields_of, fields_high k)
 
-  pub size_of : 2 + 2 * m.fields ≡ size k
-  size_of = omega (arith, fields_of)
-
-  -- A kind that has not one field has two.
-  pub fields_two : (m.fields ≡ 1 → ⊥) → (mark_of k).fields ≡ 2
-  fields_two h = omega (arith, h, fields_of, fields_low k, fields_high k)
-
-  -- Its record has six bytes.
-  pub size_two : (m.fields ≡ 1 → ⊥) → size k ≡ 6
-  size_two h = omega (arith, fields_two h)
+  -- A kind that has not two fields has one.
+  pub fields_one : (m.fields ≡ 2 → ⊥) → (mark_of k).fields ≡ 1
+  fields_one h = omega (arith, h, fields_of, fields_low k, fields_high k)
 
 -- ---- marks are told apart
 
