@@ -22,6 +22,7 @@ pub enum Kind {
 
 impl Kind {
     // How many bytes a record of the kind has.
+    #[tactic(auto, using(crate::proofs::MarkLaws::fields_small))]
     pub fn size(self) -> usize
         ensures { result ≡ size self }
     {
@@ -29,6 +30,7 @@ impl Kind {
     }
 
     // The kind's row in the table.
+    #[tactic(auto, unfolding(crate::specs::Marks::mark_of, crate::specs::Marks::marks))]
     fn mark(self) -> Mark
         ensures { result ≡ mark_of self }
     {

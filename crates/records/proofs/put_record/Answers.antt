@@ -12,6 +12,6 @@ put_field-requires c = search (rules, fields_low)
 pub returns : goal.returns
 returns c =
     elim c.if-mark-eq2.branch [
-      then-mark-eq2 w ↦ let written = w.bytes-is ∙ w.put_field-then-mark-eq2.ensures in search (rules, put_two)
-    | else-mark-eq2 w ↦ let written = w.bytes-is ∙ c.put_field.ensures in search (rules, put_one)
+      | then-mark-eq2 w ↦ let written = w.bytes-is ∙ w.put_field-then-mark-eq2.ensures in search (rules, put_two)
+      | else-mark-eq2 w ↦ let written = w.bytes-is ∙ c.put_field.ensures in search (rules, put_one)
     ]
