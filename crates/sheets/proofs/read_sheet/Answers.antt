@@ -12,29 +12,33 @@ returns-in_err-measured c =
     rw (p.1, p.2) (headless_way _ _ _ c.read_head.ensures c.in_err-measured.ensures.ok_part c.in_err-measured.ensures.value)
 
 pub returns-then-n-gt-MOST : goal.returns-then-n-gt-MOST
-returns-then-n-gt-MOST c = long_way _ _ (sym c.in_ok-measured.ensures.ok_part ∙ c.read_head.ensures) c.from-n.ensures _ c.if-n-gt-MOST.true
+returns-then-n-gt-MOST c = long_way _ _ (sym c.in_ok-measured.ensures.ok_part ∙ c.read_head.ensures) c.from-n.ensures _ (omega arith)
 
 pub returns-then-nows-n : goal.returns-then-nows-n
 returns-then-nows-n c =
-    now_missing_way _ _ (sym c.in_ok-measured.ensures.ok_part ∙ c.read_head.ensures) c.from-n.ensures _ c.if-n-gt-MOST.false (omega arith)
-    c.new.result (search rules) c.entries-nows.ensures c.if-nows-n.true
+    let is = sym c.in_ok-measured.ensures.ok_part ∙ c.read_head.ensures in
+    now_missing_way _ _ is c.from-n.ensures _ (omega arith) (omega arith) c.new.result (search rules) c.entries-nows.ensures (omega arith)
 
 pub returns-then-goals-n : goal.returns-then-goals-n
 returns-then-goals-n c =
-    goal_missing_way _ _ (sym c.in_ok-measured.ensures.ok_part ∙ c.read_head.ensures) c.from-n.ensures _ c.if-n-gt-MOST.false (omega arith)
-    c.new.result (search rules) c.entries-nows.ensures c.if-nows-n.false (omega arith)
-    c.new-2.result (search rules) c.entries-goals.ensures c.if-goals-n.true
+    let is = sym c.in_ok-measured.ensures.ok_part ∙ c.read_head.ensures in
+    goal_missing_way _ _ is c.from-n.ensures _ (omega arith)
+    (omega arith) c.new.result (search rules) c.entries-nows.ensures (omega arith)
+    (omega arith) c.new-2.result (search rules) c.entries-goals.ensures (omega arith)
 
 pub returns-then-measures-k : goal.returns-then-measures-k
 returns-then-measures-k c =
-    length_missing_way _ _ (sym c.in_ok-measured.ensures.ok_part ∙ c.read_head.ensures) c.from-n.ensures _ c.if-n-gt-MOST.false (omega arith)
-    c.new.result (search rules) c.entries-nows.ensures c.if-nows-n.false (omega arith)
-    c.new-2.result (search rules) c.entries-goals.ensures c.if-goals-n.false c.length_count-k.ensures.0 (omega arith)
-    c.new-3.result (search rules) c.entries-measures.ensures c.if-measures-k.true
+    let is = sym c.in_ok-measured.ensures.ok_part ∙ c.read_head.ensures in
+    length_missing_way _ _ is c.from-n.ensures _ (omega arith)
+    (omega arith) c.new.result (search rules) c.entries-nows.ensures (omega arith)
+    (omega arith) c.new-2.result (search rules) c.entries-goals.ensures (omega arith)
+    c.length_count-k.ensures.0 (omega arith) c.new-3.result (search rules) c.entries-measures.ensures (omega arith)
 
 pub returns : goal.returns
 returns c =
-    whole_way _ _ (sym c.in_ok-measured.ensures.ok_part ∙ c.read_head.ensures) c.from-n.ensures _ c.if-n-gt-MOST.false (omega arith)
-    c.new.result (search rules) c.entries-nows.ensures c.if-nows-n.false (omega arith)
-    c.new-2.result (search rules) c.entries-goals.ensures c.if-goals-n.false c.length_count-k.ensures.0 (omega arith)
-    c.new-3.result (search rules) c.entries-measures.ensures c.if-measures-k.false c.end_at.ensures
+    let is = sym c.in_ok-measured.ensures.ok_part ∙ c.read_head.ensures in
+    whole_way _ _ is c.from-n.ensures _ (omega arith)
+    (omega arith) c.new.result (search rules) c.entries-nows.ensures (omega arith)
+    (omega arith) c.new-2.result (search rules) c.entries-goals.ensures (omega arith)
+    c.length_count-k.ensures.0 (omega arith) c.new-3.result (search rules) c.entries-measures.ensures (omega arith)
+    c.end_at.ensures
