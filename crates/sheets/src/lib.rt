@@ -132,6 +132,7 @@ pub fn length_count(measured: bool, n: usize) -> usize
 }
 
 // Where the NW records begin, behind a head at a place.
+#[tactic(auto, unfolding(records::specs::Marks::mark_of, records::specs::Marks::marks))]
 fn nows_at(at: usize) -> usize
     requires { at < 2 ^ 63 }
     ensures { result ≡ nows_at at }
@@ -140,6 +141,7 @@ fn nows_at(at: usize) -> usize
 }
 
 // Where the GL records begin.
+#[tactic(auto, unfolding(records::specs::Marks::mark_of, records::specs::Marks::marks))]
 fn goals_at(at: usize, n: usize) -> usize
     requires at_bound { at < 2 ^ 63 }
     requires n_le_most { n ≤ most }
@@ -149,6 +151,7 @@ fn goals_at(at: usize, n: usize) -> usize
 }
 
 // Where the LN records begin.
+#[tactic(auto, unfolding(records::specs::Marks::mark_of, records::specs::Marks::marks))]
 fn lengths_at(at: usize, n: usize) -> usize
     requires at_bound { at < 2 ^ 63 }
     requires n_le_most { n ≤ most }
@@ -158,6 +161,7 @@ fn lengths_at(at: usize, n: usize) -> usize
 }
 
 // Where the sheet ends, behind k LN records.
+#[tactic(auto, unfolding(records::specs::Marks::mark_of, records::specs::Marks::marks))]
 fn end_at(at: usize, n: usize, k: usize) -> usize
     requires at_bound { at < 2 ^ 63 }
     requires n_le_most { (n ≤ most) × (k ≤ most) }
