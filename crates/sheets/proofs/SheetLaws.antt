@@ -7,7 +7,7 @@ use mathlib.Core.List.{List}
 use Rattle.std.specs.Prelude.{Option, Some, None, Ok, Err}
 use native.Mathlib.Omega.{arith}
 use borrow.Author.Tests.{eq-eqb}
-use lib.ListN.{length, take, length-take}
+use lib.ListN.{length, take}
 use Rattle.blocks.specs.State.{most}
 use Rattle.lists.specs.Lists.{overwrite}
 use Rattle.lists.proofs.ReflectLaws.{Reflects, holds, fails, eqb_reflects, leb_reflects}

@@ -6,7 +6,7 @@
 ghost use Rattle.std.specs.Prelude.{◌≡◌, ◌≤◌, ◌<◌, ◌^◌};
 ghost use Rattle.blocks.specs.State.{most};
 ghost use Rattle.sheets.specs.Sheets.{head_at, length_count, nows_at, goals_at, lengths_at, end_at};
-ghost use Rattle.sheets.specs.Reads.{ReadsSheet};
+ghost use Rattle.sheets.specs.Reads.{no_entries, ReadsSheet};
 
 use records::{Fields, Kind, Reader};
 use rows::MOST;
@@ -48,7 +48,11 @@ pub struct Entries {
 }
 
 impl Entries {
-    pub fn new() -> Self {
+    // Lists of zeros.
+    #[tactic(auto, unfolding(crate::specs::Reads::no_entries))]
+    pub fn new() -> Self
+        ensures { result ≡ no_entries }
+    {
         Entries {
             initial: [0; MOST],
             goal: [0; MOST],
