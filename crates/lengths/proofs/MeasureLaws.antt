@@ -1,4 +1,5 @@
 -- Questions 16 to 18: the test of one block, the pass over the blocks, and what each way out of `measure` answers. Assumes nothing.
+use Rattle.std.specs.Prelude.{Some, None, Err}
 use Prim.Native.Nat.{ℕ, suc, ◌+◌, ◌-◌, ◌≤◌, ◌<◌}
 use mathlib.Core.Path.{◌≡◌, sym, ap, ◌∙◌}
 use mathlib.Core.Logic.{◌≢◌}
@@ -14,15 +15,17 @@ use mir.Syntax.{w16}
 use mir.Val.{Fits}
 use Rattle.lists.proofs.ReflectLaws.{reflects_same, reflects_not, leb_reflects, ltb_reflects}
 use Rattle.lists.proofs.ScanLaws.{Scanned, scan_begin, scan_next, scan_found, scan_none}
-use Rattle.lists.proofs.SearchLaws.{lowest_le}
+use Rattle.lists.specs.Search.{nonzero}
 use Rattle.blocks.specs.State.{State, support}
 use Rattle.blocks.specs.Position.{Bounded}
-use Rattle.blocks.specs.Question.{first_no}
+use Rattle.blocks.specs.Question.{first_no, all_yes}
 use Rattle.blocks.specs.Length.{fitsᵇ, overhangsᵇ, first_overhang, asks_lengths, asks_overhang, overhang_questions, length_questions}
 use Rattle.blocks.proofs.StateLaws.{support_at}
-use Rattle.problem.specs.Checked.{asked_of}
-use Rattle.problem.proofs.SurveyLaws.{place_fits}
-use Rattle.problem.specs.declared.Checked.TheVariants.{Accepted, Refused}
+use Rattle.refusals.specs.Refusals.{no_of, asked_of}
+use Rattle.refusals.specs.declared.Refusal.{Refusal}
+use Rattle.refusals.specs.declared.Question.TheVariants.{LengthsCount, NowOverhang, GoalOverhang}
+use Rattle.problem.proofs.CountLaws.{found_at, found_none}
+use Rattle.problem.proofs.SurveyLaws.{lowest_fits, no_at, yes_at}
 use Rattle.lengths.specs.Checks.{Measurable}
 
 -- ---- the test of one block
@@ -61,13 +64,13 @@ module _ {s : State} {l : List ℕ} {n i x : ℕ} (w : Resting s l n i) (h : i <
   resting_next z =
       record { known = w.known; all = w.all; scanned = scan_next w.scanned (omega (arith, w.all)) (rw (← add-one i) (sym next_overhangs ∙ z)) }
 
-  pub resting_found : t ≡ true → i + 1 ≡ first_overhang l s
+  pub resting_found : t ≡ true → Some (i + 1) ≡ nonzero (first_overhang l s)
   unfolding first_overhang
-  resting_found z = scan_found w.scanned (omega (arith, w.all)) (rw (← add-one i) (sym next_overhangs ∙ z))
+  resting_found z = found_at i (scan_found w.scanned (omega (arith, w.all)) (rw (← add-one i) (sym next_overhangs ∙ z)))
 
-pub resting_all : {s : State} {l : List ℕ} {n i : ℕ} → Resting s l n i → n ≤ i → 0 ≡ first_overhang l s
+pub resting_all : {s : State} {l : List ℕ} {n i : ℕ} → Resting s l n i → n ≤ i → None ≡ nonzero (first_overhang l s)
 unfolding first_overhang
-resting_all w h = scan_none w.scanned (omega (arith, w.all))
+resting_all w h = found_none (scan_none w.scanned (omega (arith, w.all)))
 
 -- ---- the ways out of `measure`
 
@@ -81,25 +84,28 @@ module _ {s g : State} {l : List ℕ} (w : Bounded s g) (e : length l ≡ length
       record { small = omega (arith, w.small, same); entries = w.problem.goal.entries; count = e ∙ sym same }
 
 -- a place is a block, and fits
-pub overhang_fits : {l : List ℕ} {s : State} {p : ℕ} → Measurable s l → p ≡ first_overhang l s → Fits w16 p
+pub overhang_fits : {l : List ℕ} {s : State} {p : ℕ} → Measurable s l → Some p ≡ nonzero (first_overhang l s) → Fits w16 p
 unfolding first_overhang
-overhang_fits {l} {s} w e = place_fits (omega (arith, e, lowest_le (overhangsᵇ l s) (length s))) w.small
+overhang_fits {l} {s} w e = lowest_fits (overhangsᵇ l s) e w.small
 
-module _ (l : List ℕ) (s g : State) where
-  pub count_way : length l ≢ length s → asked_of (Refused 16 0) ≡ first_no (length_questions (some l) s g)
+module _ (l : List ℕ) (s g : State) {r : Refusal} where
+  pub count_way : r ≡ record { question = LengthsCount; place = 0 } → length l ≢ length s → asked_of {A = Unit {0}} (Err r) ≡ first_no (length_questions (some l) s g)
   unfolding length_questions asks_lengths
-  count_way n = rw (ne_eqb (length l) (length s) n)
+  count_way q n = ap no_of q ∙ rw (ne_eqb (length l) (length s) n)
 
-  module _ (e : length l ≡ length s) {p : ℕ} (f : p ≡ first_overhang l s) where
-    pub initial_way : p ≢ 0 → asked_of (Refused 17 p) ≡ first_no (length_questions (some l) s g)
+  module _ (e : length l ≡ length s) where
+    pub initial_way : {p : ℕ} → r ≡ record { question = NowOverhang; place = p } → Some p ≡ nonzero (first_overhang l s)
+        → asked_of {A = Unit {0}} (Err r) ≡ first_no (length_questions (some l) s g)
     unfolding length_questions overhang_questions asks_lengths asks_overhang
-    initial_way n = rw (eq-eqb (length l) (length s) e, ← f, ne_eqb p 0 n)
+    initial_way q f = ap no_of q ∙ rw (eq-eqb (length l) (length s) e) (no_at 17 (first_overhang l s) _ f)
 
-    module _ (z : p ≡ 0) {q : ℕ} (h : q ≡ first_overhang l g) where
-      pub goal_way : q ≢ 0 → asked_of (Refused 18 q) ≡ first_no (length_questions (some l) s g)
+    module _ (z : None ≡ nonzero (first_overhang l s)) where
+      pub goal_way : {p : ℕ} → r ≡ record { question = GoalOverhang; place = p } → Some p ≡ nonzero (first_overhang l g)
+          → asked_of {A = Unit {0}} (Err r) ≡ first_no (length_questions (some l) s g)
       unfolding length_questions overhang_questions asks_lengths asks_overhang
-      goal_way n = rw (eq-eqb (length l) (length s) e, ← f, eq-eqb p 0 z, ← h, ne_eqb q 0 n)
+      goal_way q f = ap no_of q ∙ rw (eq-eqb (length l) (length s) e) (no_at 18 (first_overhang l g) _ f ∙ yes_at 17 (first_overhang l s) _ z)
 
-      pub level_way : q ≡ 0 → asked_of Accepted ≡ first_no (length_questions (some l) s g)
-      unfolding length_questions overhang_questions asks_lengths asks_overhang
-      level_way y = rw (eq-eqb (length l) (length s) e, ← f, eq-eqb p 0 z, ← h, eq-eqb q 0 y)
+pub level_way : (l : List ℕ) (s g : State) (e : length l ≡ length s) → None ≡ nonzero (first_overhang l s) → None ≡ nonzero (first_overhang l g)
+    → all_yes ≡ first_no (length_questions (some l) s g)
+unfolding length_questions overhang_questions asks_lengths asks_overhang
+level_way l s g e z y = rw (eq-eqb (length l) (length s) e) (yes_at 18 (first_overhang l g) _ y ∙ yes_at 17 (first_overhang l s) _ z)

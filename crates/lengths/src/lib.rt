@@ -4,93 +4,73 @@
 
 ghost use Rattle.std.specs.Prelude.{◌≡◌, not, ◌≤◌, length};
 ghost use Rattle.std.proofs.Math.Option.{some};
+ghost use Rattle.lists.specs.Search.{nonzero};
 ghost use Rattle.rows.specs.Rows.{Fresh};
 ghost use Rattle.blocks.specs.Position.{Bounded};
 ghost use Rattle.blocks.specs.Question.{first_no};
 ghost use Rattle.blocks.specs.Length.{fitsᵇ, first_overhang, length_questions};
-ghost use Rattle.problem.specs.Checked.{asked_of};
+ghost use Rattle.refusals.specs.Refusals.{asked_of};
 ghost use Rattle.lengths.specs.Checks.{sheet_of, Checks, Examines, Measurable};
 
-use problem::Checked;
+use refusals::{Question, Refusal};
 use rows::{CHECKED, ROW};
 
-// Which lists of a sheet are given beside its states. One that is not is not looked at.
+// A sheet: where every block stands and where it shall stand and, where they are given, the lengths of the blocks.
 #[derive(Clone, Copy)]
-pub struct Given {
-    pub lengths: bool,
+pub struct Sheet<'a> {
+    pub initial: &'a [u16],
+    pub goal: &'a [u16],
+    pub lengths: Option<&'a [u16]>,
 }
 
 // Questions 2 to 9 and, where lengths are given, 16 to 18, put to any lists.
-pub fn check(given: Given, initial: &[u16], goal: &[u16], lengths: &[u16]) -> Checked
-    ensures { Checks (sheet_of given initial.now goal.now lengths.now) result }
+pub fn check(sheet: Sheet) -> Result<(), Refusal>
+    ensures { Checks (sheet_of sheet.entry) result }
 {
     let mut rows = [[0u16; ROW]; CHECKED];
-    examine(given, initial, goal, lengths, &mut rows)
+    examine(sheet, &mut rows)
 }
 
 // The same over lent rows that are zero, which are then as `problem::examine` leaves them.
-pub fn examine(
-    given: Given,
-    initial: &[u16],
-    goal: &[u16],
-    lengths: &[u16],
-    rows: &mut [[u16; ROW]],
-) -> Checked
+pub fn examine(sheet: Sheet, rows: &mut [[u16; ROW]]) -> Result<(), Refusal>
     requires { Fresh 4 rows.old }
-    ensures { Examines (sheet_of given initial.now goal.now lengths.now) result rows.old rows.new }
+    ensures { Examines (sheet_of sheet.entry) result rows.old rows.new }
 {
-    let checked = problem::examine(initial, goal, rows);
-    if let Checked::Refused { number, place } = checked {
-        return Checked::Refused { number, place };
+    problem::examine(sheet.initial, sheet.goal, rows)?;
+    match sheet.lengths {
+        Some(lengths) => measure(sheet.initial, sheet.goal, lengths),
+        None => Ok(()),
     }
-    if given.lengths {
-        return measure(initial, goal, lengths);
-    }
-    Checked::Accepted
 }
 
 // Questions 16 to 18, of a problem that is accepted without lengths.
-fn measure(initial: &[u16], goal: &[u16], lengths: &[u16]) -> Checked
+fn measure(initial: &[u16], goal: &[u16], lengths: &[u16]) -> Result<(), Refusal>
     requires { Bounded initial.now goal.now }
     ensures { asked_of result ≡ first_no (length_questions (some lengths.now) initial.now goal.now) }
 {
     if lengths.len() != initial.len() {
-        return Checked::Refused {
-            number: 16,
-            place: 0,
-        };
+        return Err(Question::LengthsCount.refused());
     }
-    let p = first_overhang(initial, lengths);
-    if p != 0 {
-        return Checked::Refused {
-            number: 17,
-            place: p as u16,
-        };
+    if let Some(block) = first_overhang(initial, lengths) {
+        return Err(Question::NowOverhang.refused_at(block as u16));
     }
-    let p = first_overhang(goal, lengths);
-    if p != 0 {
-        return Checked::Refused {
-            number: 18,
-            place: p as u16,
-        };
+    if let Some(block) = first_overhang(goal, lengths) {
+        return Err(Question::GoalOverhang.refused_at(block as u16));
     }
-    Checked::Accepted
+    Ok(())
 }
 
-// The lowest block that overhangs; 0 where there is none.
-fn first_overhang(s: &[u16], lengths: &[u16]) -> usize
+// The lowest block that overhangs.
+fn first_overhang(s: &[u16], lengths: &[u16]) -> Option<usize>
     requires { Measurable s.now lengths.now }
-    ensures { result ≡ first_overhang lengths.now s.now }
+    ensures { result ≡ nonzero (first_overhang lengths.now s.now) }
 {
-    let n = s.len();
-    let mut i = 0;
-    while i < n {
-        if too_long(lengths, i + 1, lists::wide(s[i])) {
-            return i + 1;
+    for (i, &x) in s.iter().enumerate() {
+        if too_long(lengths, i + 1, usize::from(x)) {
+            return Some(i + 1);
         }
-        i += 1;
     }
-    0
+    None
 }
 
 // Whether block a is too long to rest on x; never for the table.

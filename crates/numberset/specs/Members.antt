@@ -1,5 +1,5 @@
 -- A set of numbers below 4,096 in 65 words: word i holds the members from 64 × i on, a bit each, and bit i of the last word says that word i is not 0.
--- Callers know `member` and `Valid` by the contracts alone. Assumes nothing.
+-- Every `NumberSet` keeps `Valid`; callers know `member` by the contracts alone. Assumes nothing.
 use Rattle.std.specs.Prelude.{ℕ, ◌/◌, ◌%◌, ◌^◌, ◌<◌, ◌≡◌, Bool, false, not, cond, List, eqb, length, get_or}
 
 -- The members are below `limit`; a set has so many words.
@@ -28,10 +28,8 @@ pub record Valid (l : List ℕ) : Type 0 where
 
 -- The set with nothing in it.
 pub record Empty (l : List ℕ) : Type 0 where
-  pub valid : Valid l
   pub none : (x : ℕ) → member l x ≡ false
 
 -- The set after x was put in or taken out.
 pub record Assigned (l : List ℕ) (x : ℕ) (on : Bool) (l' : List ℕ) : Type 0 where
-  pub valid : Valid l'
   pub members : (y : ℕ) → y < limit → member l' y ≡ cond (eqb y x) on (member l y)

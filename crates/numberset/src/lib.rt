@@ -1,36 +1,79 @@
-// An ordered set of numbers below 4,096, in 65 words that the caller lends: put in, take out and lowest member in constant time.
+// An ordered set of numbers below 4,096: put in, take out and lowest member in constant time.
 
 #![tactic(auto)]
 
-ghost use Rattle.std.specs.Prelude.{◌≡◌, false, cond, ℕ, ◌<◌, eqb, length};
-ghost use Rattle.lists.specs.Search.{lowest};
-ghost use Rattle.numberset.specs.Members.{bit, member, Valid, Empty, Assigned, limit, highest, word_count};
+ghost use Rattle.std.specs.Prelude.{◌≡◌, true, false, cond, ℕ, ◌<◌, List, eqb};
+ghost use Rattle.lists.specs.Search.{lowest, nonzero};
+ghost use Rattle.numberset.specs.Members.{bit, member, Valid, Empty, Assigned, limit, highest};
 
-// The words of a set.
-pub const WORDS: usize = 65;
+use std::marker::Model;
 
-// Makes the set empty.
-#[tactic(auto, using(crate::proofs::MemberLaws::clear_more, crate::proofs::MemberLaws::cleared))]
-pub fn clear(set: &mut [u64])
-    requires { length set.old ≡ word_count }
-    ensures { Empty set.new }
-{
-    let mut i = 0;
-    while i < WORDS {
-        set[i] = 0;
-        i += 1;
-    }
+// A word for 64 numbers each, and one for which of these words are not 0.
+const WORDS: usize = 65;
+
+// A set of numbers below 4,096. Contracts see its words, of which callers know `member` alone.
+#[derive(Drop)]
+pub struct NumberSet {
+    words: [u64; WORDS],
 }
 
-// Puts x in, or takes it out.
-pub fn assign(set: &mut [u64], x: usize, on: bool)
-    requires { Valid set.old × (x < limit) }
-    ensures { Assigned set.old x on set.new }
-{
-    let i = x / 64;
-    let word = with_bit(set[i], (x % 64) as u32, on);
-    set[i] = word;
-    set[64] = with_bit(set[64], i as u32, word != 0);
+impl Model for NumberSet {
+    ghost Value = { List ℕ };
+
+    ghost view = { λ s. s.words };
+
+    ghost invariant = { λ s. Valid s.words };
+}
+
+impl NumberSet {
+    // The set with nothing in it.
+    #[tactic(auto, using(crate::proofs::MemberLaws::blank_valid, crate::proofs::MemberLaws::blank_empty))]
+    pub fn new() -> Self
+        ensures { Empty result }
+    {
+        NumberSet { words: [0; WORDS] }
+    }
+
+    // Takes every number out.
+    #[tactic(auto, using(crate::proofs::MemberLaws::blank_valid, crate::proofs::MemberLaws::blank_empty))]
+    pub fn clear(&mut self)
+        ensures { Empty self.new }
+    {
+        self.words = [0; WORDS];
+    }
+
+    // Puts x in.
+    pub fn insert(&mut self, x: usize)
+        requires { x < limit }
+        ensures { Assigned self.old x true self.new }
+    {
+        self.assign(x, true);
+    }
+
+    // Puts x in, or takes it out.
+    pub fn assign(&mut self, x: usize, on: bool)
+        requires { x < limit }
+        ensures { Assigned self.old x on self.new }
+    {
+        let i = x / 64;
+        let word = with_bit(self.words[i], (x % 64) as u32, on);
+        self.words[i] = word;
+        self.words[64] = with_bit(self.words[64], i as u32, word != 0);
+    }
+
+    // The lowest member from 1 on. 0 itself is no member.
+    #[tactic(auto, using(crate::proofs::MemberLaws::lowest_nothing, crate::proofs::MemberLaws::lowest_found))]
+    pub fn lowest(&self) -> Option<usize>
+        requires { member self.now 0 ≡ false }
+        ensures { result ≡ nonzero (lowest (member self.now) highest) }
+    {
+        let summary = self.words[64];
+        if summary == 0 {
+            return None;
+        }
+        let i = summary.trailing_zeros() as usize;
+        Some(64 * i + self.words[i].trailing_zeros() as usize)
+    }
 }
 
 // A word with bit i set or cleared.
@@ -41,18 +84,4 @@ fn with_bit(w: u64, i: u32, on: bool) -> u64
 {
     let one = 1u64 << i;
     if on { w | one } else { w ^ (w & one) }
-}
-
-// The lowest member from 1 on; 0 where there is none. 0 itself is no member.
-#[tactic(auto, using(crate::proofs::MemberLaws::lowest_nothing, crate::proofs::MemberLaws::lowest_found))]
-pub fn lowest(set: &[u64]) -> usize
-    requires { Valid set.now × (member set.now 0 ≡ false) }
-    ensures { result ≡ lowest (member set.now) highest }
-{
-    let summary = set[64];
-    if summary == 0 {
-        return 0;
-    }
-    let i = u64::trailing_zeros(summary) as usize;
-    64 * i + u64::trailing_zeros(set[i]) as usize
 }

@@ -32,7 +32,6 @@ use Rattle.runs.proofs.LoopRunLaws.{ran_steppable}
 use Rattle.runs.proofs.LentLaws as lent
 use Rattle.runs.proofs.LentLaws.{twice, run_plan, steps_flat}
 use Rattle.planner.specs.Answers.{mode_of, is_us, Solvable, Ran, Solved}
-use Rattle.planner.specs.declared.Planned.TheVariants.{Made}
 
 -- ---- the outcome of a method by its runs
 
@@ -115,5 +114,5 @@ module _ {s g : State} {y : Yard} {out : List ℕ} (w : Solvable s g y out) (m :
 -- ---- the answer: what is misplaced, counted on the rows as the check left them, and the runs
 
 pub solved : {m : Method} {s g : State} {y : Yard} {out : List ℕ} {d k : ℕ} {out' : List ℕ} → Solvable s g y out
-    → d ≡ count (misplaced_in y) (length s) → Ran m s g out k out' → Solved m s g out (Made k d) out'
-solved {y = y} {k = k} w e v = record { count = k; ran = v; made = ap (Made k) (e ∙ misplaced_in_lem y w.problem.problem.initial w.start.stands) }
+    → d ≡ count (misplaced_in y) (length s) → Ran m s g out k out' → Solved m s g out (record { count = k; misplaced = d }) out'
+solved {y = y} w e v = record { ran = v; misplaced = e ∙ misplaced_in_lem y w.problem.problem.initial w.start.stands }

@@ -3,52 +3,60 @@
 #![tactic(auto)]
 
 ghost use Rattle.std.specs.Prelude.{◌≡◌};
-ghost use Rattle.blocks.specs.Method.{method_of};
 ghost use Rattle.lengths.specs.Checks.{sheet_of};
-ghost use Rattle.planner.specs.Answers.{as_method, named_as, mode_of, is_us, call_of, beyondᵇ, Plans, Solvable, Ran, Solved};
+ghost use Rattle.planner.specs.Answers.{as_method, mode_of, Names, call_of, beyondᵇ, Plans, Solvable, Ran, Solved};
 
-use lengths::Given;
-use numberset::WORDS;
-use problem::Checked;
+use lengths::Sheet;
+use refusals::{Question, Refusal};
 use rows::{MOST, ROW, ROWS, Yard};
-use statuses::Mode;
+use statuses::{Mode, Sets};
 
-// The answer to planning: the number and place of the first "no", or the count of moves and the count of blocks that are misplaced at the start.
-#[derive(Drop)]
-pub enum Planned {
-    Refused { number: u16, place: u16 },
-    Made { count: usize, misplaced: usize },
+// A plan that was written: how many moves it has, and how many blocks are misplaced at the start.
+#[derive(Clone, Copy, Debug, PartialEq, Eq)]
+pub struct Planned {
+    pub count: usize,
+    pub misplaced: usize,
 }
 
 // Document 01's methods 1, 2 and 3.
-#[derive(Clone, Copy)]
+#[derive(Clone, Copy, Debug, PartialEq, Eq)]
 pub enum Method {
     Us,
     Gn1,
     Gn2,
 }
 
-// A number by which a method is asked for.
-#[derive(Clone, Copy)]
-pub enum Named {
-    By(Method),
-    Unknown,
+// Question 1: the method of a number.
+impl TryFrom<u16> for Method {
+    type Error = Refusal;
+
+    ghost try_from_gives = { Names };
+
+    fn try_from(number: u16) -> Result<Self, Refusal> {
+        match number {
+            1 => Ok(Method::Us),
+            2 => Ok(Method::Gn1),
+            3 => Ok(Method::Gn2),
+            _ => Err(Question::Method.refused()),
+        }
+    }
 }
 
-// Question 1: the method of a number.
-pub fn method_of(number: u16) -> Named
-    ensures { named_as result ≡ method_of number }
-{
-    match number {
-        1 => Named::By(Method::Us),
-        2 => Named::By(Method::Gn1),
-        3 => Named::By(Method::Gn2),
-        _ => Named::Unknown,
+impl Method {
+    // The first run of the method.
+    fn mode(self) -> Mode
+        ensures { result ≡ mode_of (as_method self) }
+    {
+        match self {
+            Method::Us => Mode::Clearing,
+            Method::Gn1 => Mode::Gn1,
+            Method::Gn2 => Mode::Gn2,
+        }
     }
 }
 
 // A call of planning: the method by its number, and whether it is the cabin panel's, which takes at most 600 blocks.
-#[derive(Clone, Copy)]
+#[derive(Clone, Copy, Debug, PartialEq, Eq)]
 pub struct Call {
     pub method: u16,
     pub panel: bool,
@@ -58,41 +66,19 @@ pub struct Call {
 const PANEL_MOST: usize = 600;
 
 // The questions of planning, and then the plan of the method, written from the front of the lent space, for any numbers and lists.
-pub fn plan(
-    call: Call,
-    given: Given,
-    initial: &[u16],
-    goal: &[u16],
-    lengths: &[u16],
-    out: &mut [u16],
-) -> Planned
-    ensures { Plans (call_of call) (sheet_of given initial.now goal.now lengths.now) out.old result out.new }
+pub fn plan(call: Call, sheet: Sheet, out: &mut [u16]) -> Result<Planned, Refusal>
+    ensures { Plans (call_of call) (sheet_of sheet.entry) out.old result out.new }
 {
-    let named = method_of(call.method);
-    let Named::By(by) = named else {
-        return Planned::Refused {
-            number: 1,
-            place: 0,
-        };
-    };
-    if beyond(call.panel, initial.len()) {
-        return Planned::Refused {
-            number: 19,
-            place: 0,
-        };
+    let method = Method::try_from(call.method)?;
+    if beyond(call.panel, sheet.initial.len()) {
+        return Err(Question::Panel.refused());
     }
     let mut yard = [[0u16; ROW]; ROWS];
-    let checked = lengths::examine(given, initial, goal, lengths, &mut yard);
-    if let Checked::Refused { number, place } = checked {
-        return Planned::Refused { number, place };
+    lengths::examine(sheet, &mut yard)?;
+    if out.len() < 4 * sheet.initial.len() {
+        return Err(Question::Space.refused());
     }
-    if out.len() < 4 * initial.len() {
-        return Planned::Refused {
-            number: 10,
-            place: 0,
-        };
-    }
-    solve(by, initial, goal, &mut yard, out)
+    Ok(solve(method, sheet.initial, sheet.goal, &mut yard, out))
 }
 
 // Question 19, which is the panel's alone and is put where 2 is answered yes: whether n is beyond its limit.
@@ -116,7 +102,7 @@ pub fn solve(
 {
     let misplaced = problem::misplaced(yard, initial.len());
     let count = run_method(method, initial, goal, yard, out);
-    Planned::Made { count, misplaced }
+    Planned { count, misplaced }
 }
 
 // The runs of a method on a copy of the initial state: US clears and then builds, the others make one run. Answers the count of moves.
@@ -130,36 +116,14 @@ fn run_method(
     requires { Solvable initial.now goal.now yard.old out.old }
     ensures { Ran (as_method method) initial.now goal.now out.old result out.new }
 {
-    let n = initial.len();
     let mut room = [0u16; MOST];
-    let cur = &mut room[..n];
-    let mut sets = [[0u64; WORDS]; 2];
-    let mode = mode_of(method);
+    let cur = &mut room[..initial.len()];
+    let mut sets = Sets::new();
+    let mode = method.mode();
     statuses::begin(mode, initial, goal, cur, yard, &mut sets);
     let k = runs::run(mode, cur, goal, yard, &mut sets, out, 0);
-    if !is_us(method) {
-        return k;
-    }
-    runs::run(Mode::Building, cur, goal, yard, &mut sets, out, k)
-}
-
-// The first run of a method.
-fn mode_of(method: Method) -> Mode
-    ensures { result ≡ mode_of (as_method method) }
-{
     match method {
-        Method::Us => Mode::Clearing,
-        Method::Gn1 => Mode::Gn1,
-        Method::Gn2 => Mode::Gn2,
-    }
-}
-
-fn is_us(method: Method) -> bool
-    ensures { result ≡ is_us (as_method method) }
-{
-    match method {
-        Method::Us => true,
-        Method::Gn1 => false,
-        Method::Gn2 => false,
+        Method::Us => runs::run(Mode::Building, cur, goal, yard, &mut sets, out, k),
+        Method::Gn1 | Method::Gn2 => k,
     }
 }

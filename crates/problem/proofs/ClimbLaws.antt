@@ -346,7 +346,7 @@ pub record Rising (s g : State) (ld : ℕ) (y₀ : Yard) (n block next below : �
   pub within : Within (ld + 1) (ld + 2) y₀ y
 
 -- the rows where the climb begins: of the standings only the table's is written
-abbrev begun : ℕ → Yard → Yard
+abbrev pub begun : ℕ → Yard → Yard
 begun ld y = store y (ld + 1) 0 2
 
 begun_within : (ld : ℕ) (y : Yard) → Within (ld + 1) (ld + 2) y (begun ld y)
@@ -386,6 +386,15 @@ module _ {s g : State} {ld : ℕ} {y₀ : Yard} where
       given = w.given;
       climbing = look w.climbing e h a;
       carried = λ m. sym (ap (λ b. get_or (row y (ld + 1)) b 0) (looked_rests s next (a ∙ rw add-one)) ∙ w.climbing.table);
+      within = w.within;
+    }
+
+    -- the way up a tower has ended
+    pub rise_rest : block ≡ 0 → Rising s g ld y₀ n 0 next 2 y
+    rise_rest e = record {
+      given = w.given;
+      climbing = rw e at w.climbing;
+      carried = λ m. absurd (m refl);
       within = w.within;
     }
 

@@ -1,7 +1,7 @@
 -- Loops over the blocks from 1 to n: what decides each test that a scan or a count asks. Assumes nothing.
 use Prim.Native.Nat.{ℕ, suc, ◌+◌, ◌≤◌, ◌<◌}
-use mathlib.Core.Path.{◌≡◌, ap}
-use mathlib.Core.Bool.{Bool, not}
+use mathlib.Core.Path.{◌≡◌, ap, sym, ◌∙◌}
+use mathlib.Core.Bool.{Bool, true, not}
 use mathlib.Core.List.{List}
 use native.Mathlib.Omega.{arith}
 use native.Mathlib.Numerals.{add-one}
@@ -10,10 +10,12 @@ use lib.Dec.{eqb}
 use lib.ListN.{length, get_or}
 use mir.Syntax.{w64}
 use mir.Val.{bool_byte, Fits}
-use Rattle.lists.specs.Search.{lowest, count}
+use Rattle.std.specs.Prelude.{Some, None}
+use Rattle.lists.specs.Search.{lowest, nonzero, count}
+use Rattle.lists.proofs.NonzeroLaws.{nonzero_none, nonzero_some}
 use Rattle.lists.proofs.ReflectLaws.{reflects_same}
 use Rattle.lists.proofs.SearchLaws.{count_ext}
-use Rattle.lists.proofs.ScanLaws.{Scanned, scan_begin, scan_next, scan_found, scan_none, Counted, counted_begin, counted_next, counted_fits, counted_end}
+use Rattle.lists.proofs.ScanLaws.{Scanned, scan_begin, scan_next, scan_found, scan_none, sweep_none, Counted, counted_begin, counted_next, counted_fits, counted_end}
 use Rattle.rows.specs.Rows.{Yard, stands_of}
 use Rattle.blocks.specs.State.{State, most, support}
 use Rattle.blocks.specs.Position.{Proper}
@@ -22,6 +24,18 @@ use Rattle.blocks.specs.Question.{outsideᵇ, first_outside}
 use Rattle.blocks.specs.Answer.{first_difference}
 use Rattle.blocks.proofs.PositionLaws.{position_test}
 use Rattle.problem.specs.Known.{Standings, right_in, misplaced_in}
+
+-- ---- what a search answers, of a block that may be 0 for none
+
+pub found_at : (i : ℕ) {x : ℕ} → i + 1 ≡ x → Some (i + 1) ≡ nonzero x
+found_at i e = nonzero_some (i + 1) (λ z. omega arith) ∙ ap nonzero e
+
+pub found_none : {x : ℕ} → 0 ≡ x → None ≡ nonzero x
+found_none e = nonzero_none (sym e)
+
+-- a sweep has passed none
+pub swept_none : {any : Bool} (b : ℕ) → any ≡ not (eqb b 0) → not any ≡ true → None ≡ nonzero b
+swept_none b e h = found_none (sweep_none e h)
 
 -- ---- question 4: the entries up to i are at most n
 
@@ -37,13 +51,13 @@ module _ {s : State} {n i x : ℕ} (w : Inside s n i) (h : i < n) (e : x ≡ get
   unfolding outsideᵇ
   inside_next l = record { all = w.all; scanned = scan_next w.scanned (omega (arith, w.all)) (le-ltb (length s) (get_or s i 0) (omega (arith, w.all))) }
 
-  pub inside_found : n < x → i + 1 ≡ first_outside s
+  pub inside_found : n < x → Some (i + 1) ≡ nonzero (first_outside s)
   unfolding first_outside outsideᵇ
-  inside_found l = scan_found w.scanned (omega (arith, w.all)) (lt-ltb (length s) (get_or s i 0) (omega (arith, w.all)))
+  inside_found l = found_at i (scan_found w.scanned (omega (arith, w.all)) (lt-ltb (length s) (get_or s i 0) (omega (arith, w.all))))
 
-pub inside_all : {s : State} {n i : ℕ} → Inside s n i → n ≤ i → 0 ≡ first_outside s
+pub inside_all : {s : State} {n i : ℕ} → Inside s n i → n ≤ i → None ≡ nonzero (first_outside s)
 unfolding first_outside
-inside_all w l = scan_none w.scanned (omega (arith, w.all))
+inside_all w l = found_none (scan_none w.scanned (omega (arith, w.all)))
 
 -- ---- the supports of the blocks up to i are the same in the goal
 
@@ -63,13 +77,13 @@ module _ {s g : State} {n i : ℕ} (w : Compared s g n i) where
   compared_next h e =
       record { all = w.all; same = w.same; scanned = scan_next w.scanned (omega (arith, w.all)) (ap not (eq-eqb (get_or s i 0) (get_or g i 0) e)) }
 
-  pub compared_found : i < n → (get_or s i 0 ≡ get_or g i 0 → ⊥) → i + 1 ≡ first_difference s g
+  pub compared_found : i < n → (get_or s i 0 ≡ get_or g i 0 → ⊥) → Some (i + 1) ≡ nonzero (first_difference s g)
   unfolding first_difference
-  compared_found h m = scan_found w.scanned (omega (arith, w.all)) (ap not (ne_eqb (get_or s i 0) (get_or g i 0) m))
+  compared_found h m = found_at i (scan_found w.scanned (omega (arith, w.all)) (ap not (ne_eqb (get_or s i 0) (get_or g i 0) m)))
 
-  pub compared_all : n ≤ i → 0 ≡ first_difference s g
+  pub compared_all : n ≤ i → None ≡ nonzero (first_difference s g)
   unfolding first_difference
-  compared_all h = scan_none w.scanned (omega (arith, w.all))
+  compared_all h = found_none (scan_none w.scanned (omega (arith, w.all)))
 
 -- ---- the blocks up to i were reached
 
@@ -87,11 +101,11 @@ module _ {st : List ℕ} {n i : ℕ} (w : Reached st n i) where
   pub reached_next : i < n → (get_or st (i + 1) 0 ≡ 0 → ⊥) → Reached st n (i + 1)
   reached_next h m = record { room = w.room; scanned = scan_next w.scanned h (ne_eqb (get_or st (suc i) 0) 0 (rw add-one at m)) }
 
-  pub reached_found : i < n → get_or st (i + 1) 0 ≡ 0 → i + 1 ≡ lowest (λ b. eqb (get_or st b 0) 0) n
-  reached_found h e = scan_found w.scanned h (eq-eqb (get_or st (suc i) 0) 0 (rw add-one at e))
+  pub reached_found : i < n → get_or st (i + 1) 0 ≡ 0 → Some (i + 1) ≡ nonzero (lowest (λ b. eqb (get_or st b 0) 0) n)
+  reached_found h e = found_at i (scan_found w.scanned h (eq-eqb (get_or st (suc i) 0) 0 (rw add-one at e)))
 
-  pub reached_all : n ≤ i → 0 ≡ lowest (λ b. eqb (get_or st b 0) 0) n
-  reached_all h = scan_none w.scanned h
+  pub reached_all : n ≤ i → None ≡ nonzero (lowest (λ b. eqb (get_or st b 0) 0) n)
+  reached_all h = found_none (scan_none w.scanned h)
 
 -- ---- c of the blocks up to i are misplaced
 

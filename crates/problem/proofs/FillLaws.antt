@@ -14,11 +14,13 @@ use mir.Syntax.{w64}
 use mir.Val.{Fits}
 use Rattle.problem.specs.Known.{Fillable, Filled}
 use Rattle.blocks.specs.State.{State, most, support}
+use Rattle.std.specs.Prelude.{Some, None}
 use Rattle.lists.specs.Search.{lowest, or_else}
 use Rattle.blocks.specs.Tests.{load}
 use Rattle.blocks.specs.Question.{outsideᵇ, first_outside, sharedᵇ, first_shared}
 use Rattle.lists.proofs.ScanLaws.{Scanned, scan_begin, scan_next, scan_found, scan_none}
 use Rattle.lists.proofs.SearchLaws.{lowest_none}
+use Rattle.problem.proofs.CountLaws.{found_at, found_none}
 use Rattle.lists.proofs.ReflectLaws.{same?}
 
 -- ---- the test of one entry
@@ -80,11 +82,11 @@ module _ {s : State} {l₀ l : List ℕ} {n i x : ℕ} (w : Filling s l₀ n l i
       go (inr m) = rw (w.at x (omega (arith, m)) entry_le)
 
   module _ {t : Bool} (is : t ≡ (not (eqb x 0) && not (eqb (get_or l x 0) 0))) where
-    pub filling_found : t ≡ true → Filled s (i + 1) l
+    pub filling_found : t ≡ true → Filled s (Some (i + 1)) l
     unfolding first_shared
     filling_found p = record {
-      place_is = scan_found w.scanned (omega (arith, w.all)) (sym next_shares ∙ (sym is ∙ p));
-      loads = λ z. absurd (omega arith);
+      place_is = found_at i (scan_found w.scanned (omega (arith, w.all)) (sym next_shares ∙ (sym is ∙ p)));
+      loads = λ z. cc;
     }
 
     pub filling_next : t ≡ false → Filling s l₀ n (set l x (i + 1)) (i + 1)
@@ -113,10 +115,10 @@ module _ {s : State} {l₀ l : List ℕ} {n i x : ℕ} (w : Filling s l₀ n l i
             rw (ne_eqb (get_or s i 0) b (λ q. m (sym q ∙ sym e)))
             (get_or-set_other l x b (suc i) 0 m ∙ (w.at b low high ∙ or_none (lowest (λ c. eqb (support s c) b) i)))
 
-pub filling_end : {s : State} {l₀ l : List ℕ} {n i : ℕ} → Filling s l₀ n l i → n ≤ i → Filled s 0 l
+pub filling_end : {s : State} {l₀ l : List ℕ} {n i : ℕ} → Filling s l₀ n l i → n ≤ i → Filled s None l
 unfolding first_shared load
 filling_end {s} {l₀} {l} {n} {i} w h = record {
-  place_is = scan_none w.scanned (omega (arith, w.all));
+  place_is = found_none (scan_none w.scanned (omega (arith, w.all)));
   loads = λ z. record { room = w.room; at = λ b low high. w.at b low high ∙ ap (lowest (λ c. eqb (support s c) b)) e };
 }
   where

@@ -1,5 +1,5 @@
 -- What lists of numbers beside a state say of it: loads, and how each block stands at the start. Assumes nothing.
-use Rattle.std.specs.Prelude.{ℕ, ◌+◌, ◌≤◌, ◌<◌, ◌≡◌, Bool, not, ◌&&◌, cond, List, eqb, length, get_or}
+use Rattle.std.specs.Prelude.{ℕ, ◌+◌, ◌≤◌, ◌<◌, ◌≡◌, Bool, not, ◌&&◌, cond, Option, None, List, eqb, length, get_or}
 use Rattle.rows.specs.Rows.{Yard, row, Blank, loads_of, stands_of, goal_loads_of, Within}
 use Rattle.blocks.specs.State.{State, most, put, Grounded}
 use Rattle.blocks.specs.Position.{Proper, InPosition}
@@ -7,6 +7,7 @@ use Rattle.blocks.specs.Move.{Legal}
 use Rattle.blocks.specs.Tests.{load}
 use Rattle.blocks.specs.Question.{first_outside, first_shared}
 use Rattle.lists.specs.Reflect.{Reflects}
+use Rattle.lists.specs.Search.{nonzero}
 
 -- Entry b is the block that rests on b, 0 for none. Entry 0 says nothing.
 pub record Loads (s : State) (l : List ℕ) : Type 0 where
@@ -20,9 +21,9 @@ pub record Fillable (s : State) (l : List ℕ) : Type 0 where
   pub blank : Blank l
 
 -- The answer to question 5, and the loads where it is yes.
-pub record Filled (s : State) (place : ℕ) (l : List ℕ) : Type 0 where
-  pub place_is : place ≡ first_shared s
-  pub loads : place ≡ 0 → Loads s l
+pub record Filled (s : State) (place : Option ℕ) (l : List ℕ) : Type 0 where
+  pub place_is : place ≡ nonzero (first_shared s)
+  pub loads : place ≡ None → Loads s l
 
 -- How a block that comes down to the table stands, from its supports now and in the goal and from how its support stands: 2 in position, 1 misplaced.
 abbrev pub stands_as : ℕ → ℕ → ℕ → ℕ

@@ -3,116 +3,98 @@
 #![tactic(auto)]
 
 ghost use Rattle.std.specs.Prelude.{◌≡◌, not, ◌&&◌, ◌+◌, ◌-◌, ◌≤◌, ◌<◌, eqb, length, get_or};
-ghost use Rattle.lists.specs.Search.{pick, lowest, count};
+ghost use Rattle.lists.specs.Search.{pick, lowest, nonzero, count};
 ghost use Rattle.blocks.specs.State.{most};
 ghost use Rattle.blocks.specs.Question.{first_outside};
 ghost use Rattle.blocks.specs.Answer.{first_difference};
 ghost use Rattle.rows.specs.Rows.{Fresh};
 ghost use Rattle.problem.specs.Known.{Fillable, Filled, stands_as, Standable, Climbable, Climbed, right_in, misplaced_in, Movable, MovedTo};
-ghost use Rattle.problem.specs.Checked.{asked_of, fault_of, Surveyable, Surveyed, Examines};
+ghost use Rattle.refusals.specs.Refusals.{no_of};
+ghost use Rattle.problem.specs.Checked.{no_by, Surveyable, Surveyed, Examines};
 
+use refusals::{Question, Refusal};
 use rows::{GOAL_LOADS, LOADS, MOST, ROW, STANDS};
 
-// The answer to a check: accepted, or the number and place of the first "no".
-#[derive(Drop)]
-pub enum Checked {
-    Accepted,
-    Refused { number: u16, place: u16 },
-}
-
 // Questions 2 to 9, put to any two lists, over lent rows that are zero. Where the problem is accepted they hold the loads of both states, and how the blocks stand.
-pub fn examine(initial: &[u16], goal: &[u16], rows: &mut [[u16; ROW]]) -> Checked
+pub fn examine(initial: &[u16], goal: &[u16], rows: &mut [[u16; ROW]]) -> Result<(), Refusal>
     requires { Fresh 4 rows.old }
     ensures { Examines initial.now goal.now result rows.old rows.new }
 {
-    let n = initial.len();
-    if MOST < n {
-        return Checked::Refused {
-            number: 2,
-            place: 0,
-        };
+    if MOST < initial.len() {
+        return Err(Question::TooMany.refused());
     }
-    if goal.len() != n {
-        return Checked::Refused {
-            number: 3,
-            place: 0,
-        };
+    if goal.len() != initial.len() {
+        return Err(Question::Unequal.refused());
     }
-    let fault = survey(initial, goal, rows, LOADS);
-    if let Fault::Sound = fault {
-        return answer(survey(goal, goal, rows, GOAL_LOADS), 7, 8, 9);
-    }
-    answer(fault, 4, 5, 6)
-}
-
-// The answer that a fault of one state gives, with the numbers of its three questions.
-fn answer(fault: Fault, outside: u16, shared: u16, floating: u16) -> Checked
-    ensures { asked_of result ≡ fault_of outside shared floating fault }
-{
-    match fault {
-        Fault::Sound => Checked::Accepted,
-        Fault::Outside(p) => Checked::Refused {
-            number: outside,
-            place: p,
-        },
-        Fault::Shared(p) => Checked::Refused {
-            number: shared,
-            place: p,
-        },
-        Fault::Floating(p) => Checked::Refused {
-            number: floating,
-            place: p,
-        },
-    }
+    survey(initial, goal, rows, LOADS).map_err(Fault::now)?;
+    survey(goal, goal, rows, GOAL_LOADS).map_err(Fault::in_goal)
 }
 
 // What is wrong with a list of supports, and at which block first.
-#[derive(Drop)]
+#[derive(Clone, Copy, Debug, PartialEq, Eq)]
 enum Fault {
-    Sound,
     Outside(u16),
     Shared(u16),
     Floating(u16),
 }
 
+impl Fault {
+    // Of the initial state: 4, 5 or 6.
+    fn now(self) -> Refusal
+        ensures { no_of result ≡ no_by 4 5 6 self }
+    {
+        match self {
+            Fault::Outside(block) => Question::NowEntry.refused_at(block),
+            Fault::Shared(block) => Question::NowShared.refused_at(block),
+            Fault::Floating(block) => Question::NowFloating.refused_at(block),
+        }
+    }
+
+    // "7, 8, 9. The same three for the goal."
+    fn in_goal(self) -> Refusal
+        ensures { no_of result ≡ no_by 7 8 9 self }
+    {
+        match self {
+            Fault::Outside(block) => Question::GoalEntry.refused_at(block),
+            Fault::Shared(block) => Question::GoalShared.refused_at(block),
+            Fault::Floating(block) => Question::GoalFloating.refused_at(block),
+        }
+    }
+}
+
 // The three questions of one state. Where all are answered yes, two rows hold what rests on each block and how each block stands.
-fn survey(s: &[u16], goal: &[u16], rows: &mut [[u16; ROW]], loads: usize) -> Fault
+fn survey(s: &[u16], goal: &[u16], rows: &mut [[u16; ROW]], loads: usize) -> Result<(), Fault>
     requires { Surveyable s.now goal.now rows.old loads }
     ensures { Surveyed s.now goal.now result loads rows.old rows.new }
 {
-    let p = first_outside(s);
-    if p != 0 {
-        return Fault::Outside(p as u16);
+    if let Some(block) = first_outside(s) {
+        return Err(Fault::Outside(block as u16));
     }
-    let p = fill_loads(s, &mut rows[loads]);
-    if p != 0 {
-        return Fault::Shared(p as u16);
+    if let Some(block) = fill_loads(s, &mut rows[loads]) {
+        return Err(Fault::Shared(block as u16));
     }
     climb(s, goal, rows, loads);
-    let p = first_floating(&rows[loads + 1], s.len());
-    if p != 0 {
-        return Fault::Floating(p as u16);
+    if let Some(block) = first_floating(&rows[loads + 1], s.len()) {
+        return Err(Fault::Floating(block as u16));
     }
-    Fault::Sound
+    Ok(())
 }
 
-// Question 4: the lowest block whose entry is above n; 0 where there is none.
-fn first_outside(s: &[u16]) -> usize
+// Question 4: the lowest block whose entry is above n.
+fn first_outside(s: &[u16]) -> Option<usize>
     requires { length s.now ≤ most }
-    ensures { result ≡ first_outside s.now }
+    ensures { result ≡ nonzero (first_outside s.now) }
 {
     if !any_outside(s) {
-        return 0;
+        return None;
     }
     let n = s.len();
-    let mut i = 0;
-    while i < n {
-        if n < lists::wide(s[i]) {
-            return i + 1;
+    for (i, &x) in s.iter().enumerate() {
+        if n < usize::from(x) {
+            return Some(i + 1);
         }
-        i += 1;
     }
-    0
+    None
 }
 
 // Whether an entry is above n. The loop has no exit, and the compiler makes it wide.
@@ -120,34 +102,28 @@ fn any_outside(s: &[u16]) -> bool
     requires { length s.now ≤ most }
     ensures { result ≡ not (eqb (first_outside s.now) 0) }
 {
-    let n = s.len();
-    let high = n as u16;
+    let high = s.len() as u16;
     let mut any = false;
-    let mut i = 0;
-    while i < n {
-        any = any | (high < s[i]);
-        i += 1;
+    for &x in s {
+        any |= high < x;
     }
     any
 }
 
-// Question 5: the lowest block that rests where a lower one rests; 0 where there is none, and then `load` holds what rests on each block.
+// Question 5: the lowest block that rests where a lower one rests; where there is none, `load` holds what rests on each block.
 // Entry 0 of `load` takes what rests on the table, and says nothing.
-fn fill_loads(s: &[u16], load: &mut [u16]) -> usize
+fn fill_loads(s: &[u16], load: &mut [u16]) -> Option<usize>
     requires { Fillable s.now load.old }
     ensures { Filled s.now result load.new }
 {
-    let n = s.len();
-    let mut i = 0;
-    while i < n {
-        let x = lists::wide(s[i]);
+    for (i, &x) in s.iter().enumerate() {
+        let x = usize::from(x);
         if taken(load, x) {
-            return i + 1;
+            return Some(i + 1);
         }
         load[x] = (i + 1) as u16;
-        i += 1;
     }
-    0
+    None
 }
 
 // Whether something has been found to rest on block x; never on the table.
@@ -155,10 +131,7 @@ pub fn taken(load: &[u16], x: usize) -> bool
     requires { x < length load.now }
     ensures { result ≡ (not (eqb x 0) && not (eqb (get_or load.now x 0) 0)) }
 {
-    if x == 0 {
-        return false;
-    }
-    load[x] != 0
+    x != 0 && load[x] != 0
 }
 
 // One climb from the table through the loads, each block once: which blocks come down to the table, and which of them are in position. The row behind that of
@@ -169,22 +142,13 @@ fn climb(s: &[u16], goal: &[u16], rows: &mut [[u16; ROW]], loads: usize)
 {
     let stands = loads + 1;
     rows[stands][0] = 2;
-    let n = s.len();
-    let mut block = 0;
-    let mut next = 0;
-    let mut below = 2; // how the support of `block` stands
-    loop {
-        if block == 0 {
-            if n <= next {
-                return;
-            }
-            block = on_table(s, next);
-            below = 2;
-            next += 1;
-        } else {
+    for i in 0..s.len() {
+        let mut block = on_table(s, i);
+        let mut below = 2; // how the support of `block` stands
+        while block != 0 {
             below = stand(s, goal, below, block);
             rows[stands][block] = below;
-            block = lists::wide(rows[loads][block]);
+            block = usize::from(rows[loads][block]);
         }
     }
 }
@@ -208,22 +172,20 @@ fn stand(s: &[u16], goal: &[u16], below: u16, b: usize) -> u16
     if below == 2 { 2 } else { 1 }
 }
 
-// The lowest block from 1 to n that was not reached; 0 where there is none.
-fn first_floating(stands: &[u16], n: usize) -> usize
+// The lowest block from 1 to n that was not reached.
+fn first_floating(stands: &[u16], n: usize) -> Option<usize>
     requires { n < length stands.now }
-    ensures { result ≡ lowest (λ b. eqb (get_or stands.now b 0) 0) n }
+    ensures { result ≡ nonzero (lowest (λ b. eqb (get_or stands.now b 0) 0) n) }
 {
     if !any_floating(stands, n) {
-        return 0;
+        return None;
     }
-    let mut i = 0;
-    while i < n {
+    for i in 0..n {
         if stands[i + 1] == 0 {
-            return i + 1;
+            return Some(i + 1);
         }
-        i += 1;
     }
-    0
+    None
 }
 
 // Whether a block from 1 to n was not reached. The loop has no exit, and the compiler makes it wide.
@@ -232,10 +194,8 @@ fn any_floating(stands: &[u16], n: usize) -> bool
     ensures { result ≡ not (eqb (lowest (λ b. eqb (get_or stands.now b 0) 0) n) 0) }
 {
     let mut any = false;
-    let mut i = 0;
-    while i < n {
-        any = any | (stands[i + 1] == 0);
-        i += 1;
+    for i in 0..n {
+        any |= stands[i + 1] == 0;
     }
     any
 }
@@ -246,10 +206,8 @@ pub fn misplaced(rows: &[[u16; ROW]], n: usize) -> usize
     ensures { result ≡ count (misplaced_in rows.now) n }
 {
     let mut c = 0;
-    let mut i = 0;
-    while i < n {
+    for i in 0..n {
         c += is_misplaced(rows, i + 1) as usize;
-        i += 1;
     }
     c
 }
@@ -275,29 +233,26 @@ pub fn make_move(cur: &mut [u16], load: &mut [u16], a: usize, x: usize)
     requires { Movable cur.old load.old a x }
     ensures { MovedTo cur.old a x cur.new load.new }
 {
-    let u = lists::wide(cur[a - 1]);
+    let u = usize::from(cur[a - 1]);
     load[u] = 0;
     load[x] = a as u16;
     cur[a - 1] = x as u16;
 }
 
-// The lowest block whose supports differ; 0 where there is none.
-pub fn first_difference(s: &[u16], goal: &[u16]) -> usize
+// The lowest block whose supports differ.
+pub fn first_difference(s: &[u16], goal: &[u16]) -> Option<usize>
     requires { length goal.now ≡ length s.now }
-    ensures { result ≡ first_difference s.now goal.now }
+    ensures { result ≡ nonzero (first_difference s.now goal.now) }
 {
     if !any_difference(s, goal) {
-        return 0;
+        return None;
     }
-    let n = s.len();
-    let mut i = 0;
-    while i < n {
-        if s[i] != goal[i] {
-            return i + 1;
+    for (i, &x) in s.iter().enumerate() {
+        if x != goal[i] {
+            return Some(i + 1);
         }
-        i += 1;
     }
-    0
+    None
 }
 
 // Whether a block's supports differ. The loop has no exit, and the compiler makes it wide.
@@ -305,12 +260,9 @@ fn any_difference(s: &[u16], goal: &[u16]) -> bool
     requires { length goal.now ≡ length s.now }
     ensures { result ≡ not (eqb (first_difference s.now goal.now) 0) }
 {
-    let n = s.len();
     let mut any = false;
-    let mut i = 0;
-    while i < n {
-        any = any | (s[i] != goal[i]);
-        i += 1;
+    for (i, &x) in s.iter().enumerate() {
+        any |= x != goal[i];
     }
     any
 }

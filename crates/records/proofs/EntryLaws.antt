@@ -1,17 +1,18 @@
 -- Reading the entries of records one after another: what the loop knows after i of them. Assumes nothing.
 use Prim.Native.Nat.{ℕ, zero, suc, ◌+◌, ◌-◌, ◌≤◌, ◌<◌}
-use mathlib.Core.Path.{◌≡◌, refl, sym, ◌∙◌, ap}
+use mathlib.Core.Path.{◌≡◌, refl, sym, ◌∙◌, ap, subst}
 use mathlib.Core.List.{List, [], ◌∷◌}
+use Rattle.std.specs.Prelude.{Option, Some, None}
 use native.Mathlib.Omega.{arith}
 use native.Mathlib.Numerals.{add-one}
-use lib.ListN.{length, set, length-set}
+use lib.ListN.{length, set}
 use lib.Seq.{sets}
 use Rattle.lists.specs.Lists.{overwrite}
 use Rattle.records.specs.Marks.{size}
 use Rattle.records.specs.Records.{record_at, and_then, entries_at, ReadEntries}
 use Rattle.records.specs.declared.Kind.{Kind}
-use Rattle.records.specs.declared.Found.{Found}
-use Rattle.records.specs.declared.Found.TheVariants.{Record, Missing}
+use Rattle.records.specs.declared.Fields.{Fields}
+use Rattle.records.specs.declared.Reader.{Reader}
 use Rattle.lists.proofs.WriteLaws.{sets_front}
 use Rattle.records.proofs.ReadLaws.{found_room}
 
@@ -20,84 +21,70 @@ unfolding entries_at
 length_entries k bytes at zero = omega arith
 length_entries k bytes at (suc n) = step (record_at k bytes at) (entries_at k bytes (at + size k) n) (length_entries k bytes (at + size k) n)
   where
-    step : (f : Found) (rest : List ℕ) → length rest ≤ n → length (and_then f rest) ≤ suc n
-    step (Record x y) rest h = omega arith
-    step Missing rest h = omega arith
+    step : (o : Option Fields) (rest : List ℕ) → length rest ≤ n → length (and_then o rest) ≤ suc n
+    step (Some f) rest h = omega arith
+    step None rest h = omega arith
 
 -- The entries from a place on, where a record was found there and where none was.
-pub entries_more : (k : Kind) (bytes : List ℕ) (at n : ℕ) {x y : ℕ} → record_at k bytes at ≡ Record x y → entries_at k bytes at (suc n) ≡ x ∷ entries_at k bytes (at + size k) n
+pub entries_more : (k : Kind) (bytes : List ℕ) (at n : ℕ) {f : Fields} → record_at k bytes at ≡ Some f → entries_at k bytes at (suc n) ≡ f.first ∷ entries_at k bytes (at + size k) n
 unfolding entries_at
 entries_more k bytes at n h = simp h
 
-pub entries_none : (k : Kind) (bytes : List ℕ) (at n : ℕ) → record_at k bytes at ≡ Missing → entries_at k bytes at n ≡ []
+pub entries_none : (k : Kind) (bytes : List ℕ) (at n : ℕ) → record_at k bytes at ≡ None → entries_at k bytes at n ≡ []
 unfolding entries_at
 entries_none k bytes at zero h = refl
 entries_none k bytes at (suc n) h = simp h
 
--- What is still to be read from `place` on completes what was written to the entries from the start.
-pub record Entering (k : Kind) (bytes : List ℕ) (at : ℕ) (out₀ : List ℕ) (step n : ℕ) (out : List ℕ) (place i : ℕ) : Type 0 where
+-- What is still to be read from the reader's place on completes what was written to the entries from the start.
+pub record Entering (k : Kind) (bytes : List ℕ) (at : ℕ) (out₀ : List ℕ) (step : ℕ) (out : List ℕ) (reader : Reader) (i : ℕ) : Type 0 where
   pub steps : step ≡ size k
-  pub all : n ≡ length out₀
-  pub same : length out ≡ length out₀
-  pub within : i ≤ n
-  pub rest : sets out i (entries_at k bytes place (n - i)) ≡ sets out₀ 0 (entries_at k bytes at n)
-  pub counted : i + length (entries_at k bytes place (n - i)) ≡ length (entries_at k bytes at n)
+  pub same : reader.bytes.now ≡ bytes
+  pub rest : sets out i (entries_at k bytes reader.at (length out₀ - i)) ≡ sets out₀ 0 (entries_at k bytes at (length out₀))
+  pub counted : i + length (entries_at k bytes reader.at (length out₀ - i)) ≡ length (entries_at k bytes at (length out₀))
 
-pub entering_begin : {k : Kind} {bytes : List ℕ} {at : ℕ} {out : List ℕ} {step n : ℕ} → step ≡ size k → n ≡ length out → Entering k bytes at out step n out at 0
-entering_begin {k} {bytes} {at} {out} {step} {n} e l =
-    let whole : n - 0 ≡ n = omega arith in
-    record { steps = e; all = l; same = refl; within = omega arith; rest = simp whole; counted = simp whole (omega arith) }
+module _ {k : Kind} {bytes : List ℕ} {at : ℕ} {out₀ : List ℕ} {step : ℕ} {out : List ℕ} {reader : Reader} {i : ℕ} (w : Entering k bytes at out₀ step out reader i) where
+  here : {o : Option Fields} → o ≡ record_at k reader.bytes.now reader.at → record_at k bytes reader.at ≡ o
+  here e = ap (λ l. record_at k l reader.at) (sym w.same) ∙ sym e
 
-module _ {k : Kind} {bytes : List ℕ} {at : ℕ} {out₀ : List ℕ} {step n : ℕ} {out : List ℕ} {place i : ℕ} (w : Entering k bytes at out₀ step n out place i) where
-  pub entering_fits : {x y : ℕ} → record_at k bytes place ≡ Record x y → place + step ≤ length bytes
-  entering_fits {x} {y} f = omega (arith, w.steps, found_room k bytes place f)
+  pub entering_fits : {f : Fields} → record_at k reader.bytes.now reader.at ≡ Some f → reader.at + step ≤ length reader.bytes.now
+  entering_fits {f} e = omega (arith, w.steps, found_room k reader.bytes.now reader.at e)
 
-  pub entering_next : {x y : ℕ} → i < n → record_at k bytes place ≡ Record x y → Entering k bytes at out₀ step n (set out i x) (place + step) (i + 1)
-  entering_next {x} {y} l f = record {
+  pub entering_next : {f : Fields} → i < length out₀ → Some f ≡ record_at k reader.bytes.now reader.at
+      → Entering k bytes at out₀ step (set out i f.first) (record { bytes = reader.bytes; at = reader.at + step }) (i + 1)
+  entering_next {f} l e = record {
     steps = w.steps;
-    all = w.all;
-    same = length-set out i x ∙ w.same;
-    within = omega arith;
-    rest = ap (λ (j : ℕ). sets (set out i x) j rest') (add-one i) ∙ sym (ap (sets out i) here) ∙ w.rest;
-    counted = omega (arith, ap length here, w.counted);
+    same = w.same;
+    rest = ap (λ (j : ℕ). sets (set out i f.first) j rest') (add-one i) ∙ sym (ap (sets out i) first) ∙ w.rest;
+    counted = omega (arith, ap length first, w.counted);
   }
     where
       rest' : List ℕ
-      rest' = entries_at k bytes (place + step) (n - (i + 1))
+      rest' = entries_at k bytes (reader.at + step) (length out₀ - (i + 1))
 
-      one : n - i ≡ suc (n - (i + 1))
+      one : length out₀ - i ≡ suc (length out₀ - (i + 1))
       one = omega arith
 
-      here : entries_at k bytes place (n - i) ≡ x ∷ rest'
-      here =
-          ap (entries_at k bytes place) one
-          ∙ entries_more k bytes place (n - (i + 1)) f
-          ∙ ap (λ (j : ℕ). x ∷ entries_at k bytes (place + j) (n - (i + 1))) (sym w.steps)
+      first : entries_at k bytes reader.at (length out₀ - i) ≡ f.first ∷ rest'
+      first =
+          ap (entries_at k bytes reader.at) one
+          ∙ entries_more k bytes reader.at (length out₀ - (i + 1)) (here e)
+          ∙ ap (λ (j : ℕ). f.first ∷ entries_at k bytes (reader.at + j) (length out₀ - (i + 1))) (sym w.steps)
 
   -- Nothing more is to be read.
-  ended : entries_at k bytes place (n - i) ≡ [] → ReadEntries k bytes at out₀ i out
-  ended none = record { counted = count ∙ again; written = write }
+  ended : entries_at k bytes reader.at (length out₀ - i) ≡ [] → ReadEntries k bytes at out₀ i out
+  ended none = record { counted = omega (arith, w.counted, ap length none); written = write }
     where
-      es : List ℕ
-      es = entries_at k bytes at n
-
-      again : length es ≡ length (entries_at k bytes at (length out₀))
-      again = ap (λ (j : ℕ). length (entries_at k bytes at j)) w.all
-
-      count : i ≡ length es
-      count = omega (arith, w.counted, ap length none)
-
       write : out ≡ overwrite (entries_at k bytes at (length out₀)) out₀
       write =
-          sym (ap (sets out i) none) ∙ w.rest ∙ ap (λ (j : ℕ). sets out₀ 0 (entries_at k bytes at j)) w.all
+          sym (ap (sets out i) none) ∙ w.rest
           ∙ sets_front (entries_at k bytes at (length out₀)) out₀ (length_entries k bytes at (length out₀))
 
-  pub entering_missing : record_at k bytes place ≡ Missing → ReadEntries k bytes at out₀ i out
-  entering_missing f = ended (entries_none k bytes place (n - i) f)
+  pub entering_missing : None ≡ record_at k reader.bytes.now reader.at → ReadEntries k bytes at out₀ i out
+  entering_missing e = ended (entries_none k bytes reader.at (length out₀ - i) (here e))
 
-  pub entering_end : n ≤ i → ReadEntries k bytes at out₀ i out
+  pub entering_end : {c : ℕ} → c ≡ i → length out₀ ≤ i → ReadEntries k bytes at out₀ c out
   unfolding entries_at
-  entering_end l = ended (ap (entries_at k bytes place) (none (omega arith)))
+  entering_end {c} e l = subst (λ j. ReadEntries k bytes at out₀ j out) (sym e) (ended (ap (entries_at k bytes reader.at) (none l)))
     where
-      none : n ≤ i → n - i ≡ 0
+      none : length out₀ ≤ i → length out₀ - i ≡ 0
       none l = omega arith

@@ -1,5 +1,5 @@
 -- The table of marks: a test of every row holds of every kind, a record has one field or two, and marks are told apart. Assumes nothing.
-use Prim.Native.Nat.{ℕ, zero, suc, ◌+◌, ◌*◌, ◌≤◌, ◌<◌}
+use Prim.Native.Nat.{ℕ, zero, suc, ◌≤◌, ◌<◌}
 use mathlib.Core.Path.{◌≡◌, refl, sym, ◌∙◌, ap, ap₂}
 use mathlib.Core.Bool.{Bool, true, false, cond, ◌&&◌, false≢true}
 use mathlib.Core.List.{List, [], ◌∷◌}
@@ -7,7 +7,7 @@ use native.Mathlib.Omega.{arith}
 use borrow.Author.Tests.{leb-true, ltb-true}
 use lib.Dec.{leb, ltb, eqb, lit<}
 use lib.ListN.{length, get_or}
-use Rattle.records.specs.Marks.{marks, row, mark_of, size}
+use Rattle.records.specs.Marks.{marks, row, mark_of}
 use Rattle.records.specs.declared.Kind.{Kind}
 use Rattle.records.specs.declared.Kind.TheVariants.{Hd, Nw, Gl, Pl, Lf, No, Hl, Ln}
 use Rattle.records.specs.declared.Mark.{Mark}
@@ -78,16 +78,9 @@ module _ (k : Kind) {m : Mark} (e : m ≡ mark_of k) where
   pub fields_small : m.fields ≤ 2
   fields_small = omega (arith, fields_of, fields_high k)
 
-  pub size_of : 2 + 2 * m.fields ≡ size k
-  size_of = omega (arith, fields_of)
-
-  -- A kind that has not one field has two.
-  pub fields_two : (m.fields ≡ 1 → ⊥) → (mark_of k).fields ≡ 2
-  fields_two h = omega (arith, h, fields_of, fields_low k, fields_high k)
-
-  -- Its record has six bytes.
-  pub size_two : (m.fields ≡ 1 → ⊥) → size k ≡ 6
-  size_two h = omega (arith, fields_two h)
+  -- A kind that has not two fields has one.
+  pub fields_one : (m.fields ≡ 2 → ⊥) → (mark_of k).fields ≡ 1
+  fields_one h = omega (arith, h, fields_of, fields_low k, fields_high k)
 
 -- ---- marks are told apart
 

@@ -4,6 +4,7 @@ use mathlib.Core.Path.{◌≡◌, refl, sym, ◌∙◌, ap, ap₂}
 use mathlib.Core.Logic.{◌≢◌}
 use mathlib.Core.Bool.{Bool, true, false, ◌&&◌}
 use mathlib.Core.List.{List, [], ◌∷◌, ◌++◌, append_assoc}
+use Rattle.std.specs.Prelude.{Option, None}
 use native.Mathlib.Omega.{arith}
 use native.Mathlib.Numerals.{add-one}
 use borrow.Author.Tests.{le-leb, eq-eqb, lt-ltb, eqb-true}
@@ -12,12 +13,11 @@ use lib.ListN.{length, get_or, take, drop, length-append}
 use lib.Seq.{drop-cons}
 use Rattle.lists.specs.Search.{pick}
 use Rattle.records.specs.Marks.{mark_of, size}
-use Rattle.records.specs.Records.{field_at, has_record, field_of, record_at, found_if, entries_at, field_bytes, record_bytes}
+use Rattle.records.specs.Records.{field_at, has_record, field_of, found, record_at, found_if, entries_at, field_bytes, record_bytes}
 use Rattle.lists.specs.Lists.{overwrite_at}
 use Rattle.records.specs.RoundTrip.{RoundTrip, Bytes, entry_bytes, EntriesTrip}
 use Rattle.records.specs.declared.Kind.{Kind}
-use Rattle.records.specs.declared.Found.{Found}
-use Rattle.records.specs.declared.Found.TheVariants.{Record, Missing}
+use Rattle.records.specs.declared.Fields.{Fields}
 use Rattle.records.proofs.MarkLaws.{fields_low, fields_high, by_fields, high_small, low_small, own_mark}
 use Rattle.lists.proofs.WriteLaws.{length-overwrite_at, get_d_overwrite_at, overwrite_between}
 use Rattle.records.proofs.ReadLaws.{found_has, found_room, found_first, found_second, has_high, has_low}
@@ -91,16 +91,16 @@ module _ (k : Kind) (x y at : ℕ) (space : List ℕ) (room : at + size k ≤ le
   own_field (suc (suc zero)) e h = second e
   own_field (suc (suc (suc n))) e h = absurd (omega arith)
 
-  read_back : record_at k written at ≡ Record x (pick (ltb 1 (mark_of k).fields) y)
+  read_back : record_at k written at ≡ found x (pick (ltb 1 (mark_of k).fields) y)
   unfolding record_at field_of
   read_back =
-      ap (λ (b : Bool). found_if b (Record (pick (ltb 0 (mark_of k).fields) (field_at written (at + 2))) (pick (ltb 1 (mark_of k).fields) (field_at written (at + 4))))) has_written
-      ∙ ap (λ (t : Bool). Record (pick t (field_at written (at + 2))) (pick (ltb 1 (mark_of k).fields) (field_at written (at + 4)))) (lt-ltb 0 (mark_of k).fields (fields_low k))
-      ∙ ap₂ Record first (own_field (mark_of k).fields refl (fields_high k))
+      ap (λ (b : Bool). found_if b (found (pick (ltb 0 (mark_of k).fields) (field_at written (at + 2))) (pick (ltb 1 (mark_of k).fields) (field_at written (at + 4))))) has_written
+      ∙ ap (λ (t : Bool). found (pick t (field_at written (at + 2))) (pick (ltb 1 (mark_of k).fields) (field_at written (at + 4)))) (lt-ltb 0 (mark_of k).fields (fields_low k))
+      ∙ ap₂ found first (own_field (mark_of k).fields refl (fields_high k))
 
 -- ---- and as no other kind
 
-other_mark : (j : Kind) (bytes : List ℕ) (at : ℕ) → (get_or bytes at 0 ≡ (mark_of j).high → get_or bytes (at + 1) 0 ≡ (mark_of j).low → ⊥) → record_at j bytes at ≡ Missing
+other_mark : (j : Kind) (bytes : List ℕ) (at : ℕ) → (get_or bytes at 0 ≡ (mark_of j).high → get_or bytes (at + 1) 0 ≡ (mark_of j).low → ⊥) → record_at j bytes at ≡ None
 unfolding record_at has_record
 other_mark j bytes at d =
     none
@@ -110,14 +110,14 @@ other_mark j bytes at d =
     _
     (λ h l. d (eqb-true (get_or bytes at 0) (mark_of j).high h) (eqb-true (get_or bytes (at + 1) 0) (mark_of j).low l))
   where
-    none : (a b c : Bool) (f : Found) → (b ≡ true → c ≡ true → ⊥) → found_if (a && (b && c)) f ≡ Missing
+    none : (a b c : Bool) (f : Option Fields) → (b ≡ true → c ≡ true → ⊥) → found_if (a && (b && c)) f ≡ None
     none false b c f h = refl
     none true false c f h = refl
     none true true false f h = refl
     none true true true f h = absurd (h refl refl)
 
 as_no_other : (k : Kind) (x y at : ℕ) (space : List ℕ) (j : Kind) → j ≢ k → at + size k ≤ length space
-    → record_at j (overwrite_at at (record_bytes k (x ∷ y ∷ [])) space) at ≡ Missing
+    → record_at j (overwrite_at at (record_bytes k (x ∷ y ∷ [])) space) at ≡ None
 as_no_other k x y at space j d room =
     other_mark j (written k x y at space room) at (λ h l. d (own_mark j k (sym h ∙ high k x y at space room) (sym l ∙ low k x y at space room)))
 
@@ -164,7 +164,7 @@ module _ (bytes : List ℕ) (small : Bytes bytes) where
       ∙ ap (λ (l : List ℕ). get_or bytes at 0 ∷ l) (next_byte bytes (at + 1) n h)
       ∙ simp (on, w, two.0, two.1)
 
-  module _ (k : Kind) (x y at : ℕ) (found : record_at k bytes at ≡ Record x y) where
+  module _ (k : Kind) (x y at : ℕ) (found : record_at k bytes at ≡ found x y) where
     room : at + size k ≤ length bytes
     room = found_room k bytes at found
 
@@ -200,7 +200,7 @@ round_trip k x y at space = record {
 -- ---- entries one after another
 
 -- A record that stands between others is read.
-pub read_between : (k : Kind) (x y : ℕ) (front rest : List ℕ) → record_at k (front ++ (record_bytes k (x ∷ y ∷ []) ++ rest)) (length front) ≡ Record x (pick (ltb 1 (mark_of k).fields) y)
+pub read_between : (k : Kind) (x y : ℕ) (front rest : List ℕ) → record_at k (front ++ (record_bytes k (x ∷ y ∷ []) ++ rest)) (length front) ≡ found x (pick (ltb 1 (mark_of k).fields) y)
 read_between k x y front rest =
     ap (λ (l : List ℕ). record_at k l (length front)) (sym (overwrite_between front (record_bytes k (x ∷ y ∷ [])) rest))
     ∙ read_back k x y (length front) (front ++ (record_bytes k (x ∷ y ∷ []) ++ rest)) (simp (length-append, length_record) (omega arith))

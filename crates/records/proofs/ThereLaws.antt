@@ -3,15 +3,15 @@ use Prim.Native.Nat.{ℕ, zero, suc, ◌+◌, ◌*◌, ◌≤◌, ◌<◌}
 use mathlib.Core.Path.{◌≡◌, refl, ◌∙◌, ap, subst}
 use mathlib.Core.Logic.{◌⊎◌, inl, inr, ◌↔◌}
 use mathlib.Core.List.{List}
+use Rattle.std.specs.Prelude.{Option, Some, None}
 use native.Mathlib.Omega.{arith}
 use lib.ListN.{length, get_or}
 use Rattle.lists.proofs.ReflectLaws.{Reflects, from_true, to_true, reflects_and, reflects_iff, eqb_reflects, leb_reflects, same?}
 use Rattle.records.specs.Marks.{mark_of, size}
-use Rattle.records.specs.Records.{field_at, has_record, field_of, record_at, found_if, entries_at}
+use Rattle.records.specs.Records.{field_at, has_record, field_of, found, record_at, found_if, entries_at}
 use Rattle.records.specs.There.{There, AllThere, FirstMissing, Entries}
 use Rattle.records.specs.declared.Kind.{Kind}
-use Rattle.records.specs.declared.Found.{Found}
-use Rattle.records.specs.declared.Found.TheVariants.{Record, Missing}
+use Rattle.records.specs.declared.Fields.{Fields}
 use Rattle.records.proofs.ReadLaws.{found_has, found_first}
 use Rattle.records.proofs.EntryLaws.{length_entries, entries_more, entries_none}
 
@@ -26,15 +26,15 @@ module _ (k : Kind) (bytes : List ℕ) (at : ℕ) where
       (λ w. (w.all, (w.high, w.low)))
       (reflects_and (leb_reflects (at + size k) (length bytes)) (reflects_and (eqb_reflects (get_or bytes at 0) (mark_of k).high) (eqb_reflects (get_or bytes (at + 1) 0) (mark_of k).low)))
 
-  pub found_there : {x y : ℕ} → record_at k bytes at ≡ Record x y → There k bytes at
+  pub found_there : {f : Fields} → record_at k bytes at ≡ Some f → There k bytes at
   found_there e = from_true there_reflects (found_has k bytes at e)
 
-  pub there_found : There k bytes at → record_at k bytes at ≡ Record (field_of k bytes at 0) (field_of k bytes at 1)
+  pub there_found : There k bytes at → record_at k bytes at ≡ found (field_of k bytes at 0) (field_of k bytes at 1)
   unfolding record_at
-  there_found w = ap (λ b. found_if b (Record (field_of k bytes at 0) (field_of k bytes at 1))) (to_true there_reflects w)
+  there_found w = ap (λ b. found_if b (found (field_of k bytes at 0) (field_of k bytes at 1))) (to_true there_reflects w)
 
-  pub missing_there : record_at k bytes at ≡ Missing → ¬ There k bytes at
-  missing_there e w = let f = there_found w in let z : ◌≡◌ {A = ℕ} 0 1 = cc in omega arith
+  pub missing_there : record_at k bytes at ≡ None → ¬ There k bytes at
+  missing_there e w = let f = there_found w in cc
 
 -- ---- records one after another
 
@@ -44,11 +44,11 @@ unfolding entries_at
 entries_there k bytes at zero = λ i l. absurd (omega arith)
 entries_there k bytes at (suc n) = by (record_at k bytes at) refl (entries_there k bytes (at + size k) n)
   where
-    by : (f : Found) → record_at k bytes at ≡ f → AllThere k bytes (at + size k) (length (entries_at k bytes (at + size k) n))
+    by : (o : Option Fields) → record_at k bytes at ≡ o → AllThere k bytes (at + size k) (length (entries_at k bytes (at + size k) n))
         → AllThere k bytes at (length (entries_at k bytes at (suc n)))
-    by Missing e rest i l = absurd (omega (arith, ap length (entries_none k bytes at (suc n) e)))
-    by (Record x y) e rest zero l = let here : at ≡ at + 0 * size k = omega arith in subst (There k bytes) here (found_there k bytes at e)
-    by (Record x y) e rest (suc i) l =
+    by None e rest i l = absurd (omega (arith, ap length (entries_none k bytes at (suc n) e)))
+    by (Some f) e rest zero l = let here : at ≡ at + 0 * size k = omega arith in subst (There k bytes) here (found_there k bytes at e)
+    by (Some f) e rest (suc i) l =
         let on : at + size k + i * size k ≡ at + suc i * size k = omega arith in
         subst (There k bytes) on (rest i (omega (arith, ap length (entries_more k bytes at n e))))
 
@@ -57,14 +57,14 @@ entries_each : (k : Kind) (bytes : List ℕ) (at n i : ℕ) → i < length (entr
 entries_each k bytes at zero i = λ l. absurd (omega (arith, length_entries k bytes at 0))
 entries_each k bytes at (suc n) i = by (record_at k bytes at) refl i (λ j. entries_each k bytes (at + size k) n j)
   where
-    by : (f : Found) → record_at k bytes at ≡ f → (i : ℕ)
+    by : (o : Option Fields) → record_at k bytes at ≡ o → (i : ℕ)
         → ((j : ℕ) → j < length (entries_at k bytes (at + size k) n) → get_or (entries_at k bytes (at + size k) n) j 0 ≡ field_at bytes (at + size k + j * size k + 2))
         → i < length (entries_at k bytes at (suc n)) → get_or (entries_at k bytes at (suc n)) i 0 ≡ field_at bytes (at + i * size k + 2)
-    by Missing e i rest l = absurd (omega (arith, ap length (entries_none k bytes at (suc n) e)))
-    by (Record x y) e zero rest l =
+    by None e i rest l = absurd (omega (arith, ap length (entries_none k bytes at (suc n) e)))
+    by (Some f) e zero rest l =
         let here : at + 2 ≡ at + 0 * size k + 2 = omega arith in
         ap (λ s. get_or s 0 0) (entries_more k bytes at n e) ∙ found_first k bytes at e ∙ ap (field_at bytes) here
-    by (Record x y) e (suc i) rest l =
+    by (Some f) e (suc i) rest l =
         let on : at + size k + i * size k + 2 ≡ at + suc i * size k + 2 = omega arith in
         let more = entries_more k bytes at n e in
         ap (λ s. get_or s (suc i) 0) more ∙ rest i (omega (arith, ap length more)) ∙ ap (field_at bytes) on
@@ -74,13 +74,13 @@ pub entries_missing : (k : Kind) (bytes : List ℕ) (at n : ℕ) → length (ent
 entries_missing k bytes at zero l = absurd (omega arith)
 entries_missing k bytes at (suc n) l = by (record_at k bytes at) refl (λ few. entries_missing k bytes (at + size k) n few)
   where
-    by : (f : Found) → record_at k bytes at ≡ f
+    by : (o : Option Fields) → record_at k bytes at ≡ o
         → (length (entries_at k bytes (at + size k) n) < n → ¬ There k bytes (at + size k + length (entries_at k bytes (at + size k) n) * size k))
         → ¬ There k bytes (at + length (entries_at k bytes at (suc n)) * size k)
-    by Missing e rest w =
+    by None e rest w =
         let here : at + length (entries_at k bytes at (suc n)) * size k ≡ at = ap (λ s. at + length s * size k) (entries_none k bytes at (suc n) e) ∙ omega arith in
         missing_there k bytes at e (subst (There k bytes) here w)
-    by (Record x y) e rest w =
+    by (Some f) e rest w =
         let more = ap length (entries_more k bytes at n e) in
         let on : at + length (entries_at k bytes at (suc n)) * size k ≡ at + size k + length (entries_at k bytes (at + size k) n) * size k =
         ap (λ c. at + c * size k) more ∙ omega arith in

@@ -12,7 +12,7 @@ use Rattle.lists.specs.Lists.{overwrite_at}
 use Rattle.records.specs.declared.Kind.{Kind}
 use Rattle.records.specs.declared.Mark.{Mark}
 use Rattle.lists.proofs.WriteLaws.{sets_at}
-use Rattle.records.proofs.MarkLaws.{by_fields, fields_of, fields_two}
+use Rattle.records.proofs.MarkLaws.{by_fields, fields_of, fields_one}
 
 pub length_record : (k : Kind) (x y : ℕ) → length (record_bytes k (x ∷ y ∷ [])) ≡ size k
 unfolding record_bytes
@@ -32,13 +32,13 @@ module _ (k : Kind) {m : Mark} (e : m ≡ mark_of k) (at : ℕ) (l : List ℕ) (
   written : {l' : List ℕ} → l' ≡ sets l at (record_bytes k (x ∷ y ∷ [])) → l' ≡ overwrite_at at (record_bytes k (x ∷ y ∷ [])) l
   written s = s ∙ sets_at at (record_bytes k (x ∷ y ∷ [])) l (omega (arith, length_record k x y))
 
-  pub put_one : {l₁ : List ℕ} → l₁ ≡ sets (marked m at l) (at + 2) (field_bytes (x ∷ [])) → m.fields ≡ 1 → PutRecord k x y at l (at + n) l₁
+  pub put_one : {l₁ : List ℕ} → l₁ ≡ sets (marked m at l) (at + 2) (field_bytes (x ∷ [])) → (m.fields ≡ 2 → ⊥) → PutRecord k x y at l (at + n) l₁
   unfolding record_bytes
   put_one {l₁} s f =
-      record { after = ap (λ (j : ℕ). at + j) whole; written = written (s ∙ simp (e, sym (fields_of k e) ∙ f, add-one at, up_two)) }
+      record { after = ap (λ (j : ℕ). at + j) whole; written = written (s ∙ simp (e, fields_one k e f, add-one at, up_two)) }
 
-  pub put_two : {l₁ l₂ : List ℕ} → l₁ ≡ sets (marked m at l) (at + 2) (field_bytes (x ∷ [])) → (m.fields ≡ 1 → ⊥) → l₂ ≡ sets l₁ (at + 4) (field_bytes (y ∷ []))
+  pub put_two : {l₁ l₂ : List ℕ} → l₁ ≡ sets (marked m at l) (at + 2) (field_bytes (x ∷ [])) → m.fields ≡ 2 → l₂ ≡ sets l₁ (at + 4) (field_bytes (y ∷ []))
       → PutRecord k x y at l (at + n) l₂
   unfolding record_bytes
   put_two {l₁} {l₂} s f t =
-      record { after = ap (λ (j : ℕ). at + j) whole; written = written (t ∙ simp (s, e, fields_two k e f, add-one at, up_two, up_four)) }
+      record { after = ap (λ (j : ℕ). at + j) whole; written = written (t ∙ simp (s, e, sym (fields_of k e) ∙ f, add-one at, up_two, up_four)) }

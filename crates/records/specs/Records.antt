@@ -1,11 +1,10 @@
 -- Records, read and written (document 01, "Records of the program"). Assumes nothing.
-use Rattle.std.specs.Prelude.{ℕ, zero, suc, ◌+◌, ◌*◌, ◌/◌, ◌%◌, ◌≡◌, Bool, true, false, ◌&&◌, List, [], ◌∷◌, leb, ltb, eqb, length, get_or, take}
+use Rattle.std.specs.Prelude.{ℕ, zero, suc, ◌+◌, ◌*◌, ◌/◌, ◌%◌, ◌≡◌, Bool, true, false, ◌&&◌, Option, Some, None, List, [], ◌∷◌, leb, ltb, eqb, length, get_or, take}
 use Rattle.lists.specs.Search.{pick}
 use Rattle.lists.specs.Lists.{overwrite, overwrite_at}
 use Rattle.records.specs.Marks.{mark_of, size}
 use Rattle.records.specs.declared.Kind.{Kind}
-use Rattle.records.specs.declared.Found.{Found}
-use Rattle.records.specs.declared.Found.TheVariants.{Record, Missing}
+use Rattle.records.specs.declared.Fields.{Fields}
 
 -- ---- reading
 
@@ -21,19 +20,23 @@ has_record k bytes at = leb (at + size k) (length bytes) && (eqb (get_or bytes a
 unfoldable pub field_of : Kind → List ℕ → ℕ → ℕ → ℕ
 field_of k bytes at i = pick (ltb i (mark_of k).fields) (field_at bytes (at + 2 * (i + 1)))
 
+-- A record that is there, by its fields.
+abbrev pub found : ℕ → ℕ → Option Fields
+found x y = Some (record { first = x; second = y })
+
 -- What was found, where the test passed.
-abbrev pub found_if : Bool → Found → Found
+abbrev pub found_if : Bool → Option Fields → Option Fields
 found_if true f = f
-found_if false f = Missing
+found_if false f = None
 
 -- The record of a kind at a place, or none.
-unfoldable pub record_at : Kind → List ℕ → ℕ → Found
-record_at k bytes at = found_if (has_record k bytes at) (Record (field_of k bytes at 0) (field_of k bytes at 1))
+unfoldable pub record_at : Kind → List ℕ → ℕ → Option Fields
+record_at k bytes at = found_if (has_record k bytes at) (found (field_of k bytes at 0) (field_of k bytes at 1))
 
 -- The first field of what was found, and then the rest; nothing where nothing was found.
-abbrev pub and_then : Found → List ℕ → List ℕ
-and_then (Record x y) rest = x ∷ rest
-and_then Missing rest = []
+abbrev pub and_then : Option Fields → List ℕ → List ℕ
+and_then (Some f) rest = f.first ∷ rest
+and_then None rest = []
 
 -- The first fields of the records of a kind that stand one after another from a place on, at most n, up to the first place without one.
 unfoldable pub entries_at : Kind → List ℕ → ℕ → ℕ → List ℕ

@@ -1,12 +1,11 @@
 -- What the writer writes the reader reads back, and what the reader accepts the writer would have written. Statements alone;
 -- `proofs/RoundTrip.antt` proves them. Assumes nothing.
-use Rattle.std.specs.Prelude.{ℕ, ◌+◌, ◌<◌, ◌≤◌, ◌≡◌, ◌≢◌, List, [], ◌∷◌, ◌++◌, ltb, length, get_or, take, drop}
+use Rattle.std.specs.Prelude.{ℕ, ◌+◌, ◌<◌, ◌≤◌, ◌≡◌, ◌≢◌, None, List, [], ◌∷◌, ◌++◌, ltb, length, get_or, take, drop}
 use Rattle.lists.specs.Search.{pick}
 use Rattle.records.specs.Marks.{mark_of, size}
-use Rattle.records.specs.Records.{record_at, entries_at, record_bytes}
+use Rattle.records.specs.Records.{found, record_at, entries_at, record_bytes}
 use Rattle.lists.specs.Lists.{overwrite_at}
 use Rattle.records.specs.declared.Kind.{Kind}
-use Rattle.records.specs.declared.Found.TheVariants.{Record, Missing}
 
 -- Every number of the list fits a byte.
 pub record Bytes (l : List ℕ) : Type 0 where
@@ -17,12 +16,12 @@ pub record Bytes (l : List ℕ) : Type 0 where
 pub record RoundTrip (k : Kind) (x y at : ℕ) (space : List ℕ) : Type 0 where
   pub back :
       at + size k ≤ length space
-      → record_at k (overwrite_at at (record_bytes k (x ∷ y ∷ [])) space) at ≡ Record x (pick (ltb 1 (mark_of k).fields) y)
+      → record_at k (overwrite_at at (record_bytes k (x ∷ y ∷ [])) space) at ≡ found x (pick (ltb 1 (mark_of k).fields) y)
   -- As no other kind: the mark is its own.
-  pub other : (j : Kind) → j ≢ k → at + size k ≤ length space → record_at j (overwrite_at at (record_bytes k (x ∷ y ∷ [])) space) at ≡ Missing
+  pub other : (j : Kind) → j ≢ k → at + size k ≤ length space → record_at j (overwrite_at at (record_bytes k (x ∷ y ∷ [])) space) at ≡ None
   pub bytes : x < 65536 → y < 65536 → Bytes (record_bytes k (x ∷ y ∷ []))
   -- A record that is read is the record that would be written.
-  pub forth : Bytes space → record_at k space at ≡ Record x y → take (size k) (drop at space) ≡ record_bytes k (x ∷ y ∷ [])
+  pub forth : Bytes space → record_at k space at ≡ found x y → take (size k) (drop at space) ≡ record_bytes k (x ∷ y ∷ [])
 
 -- The records of a kind with these first fields, one after another; a second field is 0.
 unfoldable pub entry_bytes : Kind → List ℕ → List ℕ

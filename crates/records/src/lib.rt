@@ -7,8 +7,8 @@ ghost use Rattle.std.proofs.lemmas.List.Edits.{sets};
 ghost use Rattle.records.specs.Marks.{row, mark_of, size};
 ghost use Rattle.records.specs.Records.{field_at, has_record, record_at, ReadEntries, field_bytes, PutRecord};
 
-// The kinds of records, by their marks.
-#[derive(Clone, Copy)]
+// The kinds of records, by their marks, in the order of the table.
+#[derive(Clone, Copy, Debug, PartialEq, Eq)]
 pub enum Kind {
     Hd,
     Nw,
@@ -20,8 +20,33 @@ pub enum Kind {
     Ln,
 }
 
+impl Kind {
+    // How many bytes a record of the kind has.
+    #[tactic(auto, using(crate::proofs::MarkLaws::fields_small))]
+    pub fn size(self) -> usize
+        ensures { result ≡ size self }
+    {
+        2 + 2 * self.mark().fields
+    }
+
+    // The kind's row in the table.
+    #[tactic(auto, unfolding(crate::specs::Marks::mark_of, crate::specs::Marks::marks))]
+    fn mark(self) -> Mark
+        ensures { result ≡ mark_of self }
+    {
+        MARKS[self.row()]
+    }
+
+    // Where the kind stands in the table.
+    fn row(self) -> usize
+        ensures { result ≡ row self }
+    {
+        self as usize
+    }
+}
+
 // A mark, high byte first, and how many fields follow it.
-#[derive(Clone, Copy)]
+#[derive(Clone, Copy, Debug, PartialEq, Eq)]
 pub struct Mark {
     pub high: u8,
     pub low: u8,
@@ -73,32 +98,61 @@ const MARKS: [Mark; 8] = [
     },
 ];
 
-// What stands at a place: a record of the kind asked for, with its fields, or none. A kind of one field has 0 for the second.
-#[derive(Drop)]
-pub enum Found {
-    Record { first: u16, second: u16 },
-    Missing,
+// The fields of a record. A kind of one field has 0 for the second.
+#[derive(Clone, Copy, Debug, PartialEq, Eq)]
+pub struct Fields {
+    pub first: u16,
+    pub second: u16,
 }
 
-// The bytes of a file and a place in them. Each function over a reader takes it apart and calls one on the slice and the number.
-#[derive(Drop)]
+// The bytes of a file and a place in them.
+#[derive(Clone, Copy, Debug, PartialEq, Eq)]
 pub struct Reader<'a> {
     pub bytes: &'a [u8],
     pub at: usize,
 }
 
-// The record of a kind at a place, by a reader.
-pub fn read_record(kind: Kind, bytes: &[u8], at: usize) -> Found
-    ensures { result ≡ record_at kind bytes.now at }
-{
-    next_record(kind, reader_at(bytes, at))
-}
+impl<'a> Reader<'a> {
+    // A reader of the bytes from a place on.
+    pub fn new(bytes: &'a [u8], at: usize) -> Self
+        ensures { (result.bytes ≡ bytes.entry) × (result.at ≡ at) }
+    {
+        Reader { bytes, at }
+    }
 
-// The entries of records of a kind from a place on, by a reader.
-pub fn read_entries(kind: Kind, bytes: &[u8], at: usize, out: &mut [u16]) -> usize
-    ensures { ReadEntries kind bytes.now at out.old result out.new }
-{
-    next_entries(kind, reader_at(bytes, at), out)
+    // The record of a kind at the reader's place, if one stands there.
+    pub fn record(self, kind: Kind) -> Option<Fields>
+        ensures { result ≡ record_at kind self.entry.bytes.now self.entry.at }
+    {
+        let at = self.at;
+        if !has_record(kind, self.bytes, at) {
+            return None;
+        }
+        let first = field_at(self.bytes, at + 2);
+        let second = if kind.mark().fields == 2 {
+            field_at(self.bytes, at + 4)
+        } else {
+            0
+        };
+        Some(Fields { first, second })
+    }
+
+    // The first fields of the records of a kind that stand one after another from the reader's place on, as many as the lent list takes, into that list.
+    // The answer is how many there are before the first place without one.
+    pub fn entries(self, kind: Kind, out: &mut [u16]) -> usize
+        ensures { ReadEntries kind self.entry.bytes.now self.entry.at out.old result out.new }
+    {
+        let step = kind.size();
+        let mut reader = self;
+        for (i, entry) in out.iter_mut().enumerate() {
+            let Some(fields) = reader.record(kind) else {
+                return i;
+            };
+            *entry = fields.first;
+            reader.at += step;
+        }
+        out.len()
+    }
 }
 
 // Writes a record at a place, and answers the place after it. A kind of one field takes the first.
@@ -106,101 +160,25 @@ pub fn put_record(kind: Kind, first: u16, second: u16, bytes: &mut [u8], at: usi
     requires { at + size kind ≤ length bytes.old }
     ensures { PutRecord kind first second at bytes.old result bytes.new }
 {
-    let next = at + size(kind);
-    let m = mark_of(kind);
-    bytes[at] = m.high;
-    bytes[at + 1] = m.low;
+    let mark = kind.mark();
+    bytes[at] = mark.high;
+    bytes[at + 1] = mark.low;
     put_field(bytes, at + 2, first);
-    if m.fields == 1 {
-        return next;
+    if mark.fields == 2 {
+        put_field(bytes, at + 4, second);
     }
-    put_field(bytes, at + 4, second);
-    next
-}
-
-// How many bytes a record of a kind has.
-pub fn size(kind: Kind) -> usize
-    ensures { result ≡ size kind }
-{
-    let m = mark_of(kind);
-    2 + 2 * m.fields
-}
-
-// A reader of the bytes from a place on.
-pub fn reader_at<'a>(bytes: &'a [u8], at: usize) -> Reader<'a>
-    ensures { (result.bytes ≡ bytes.entry) × (result.at ≡ at) }
-{
-    Reader { bytes, at }
-}
-
-// The record of a kind at the reader's place.
-pub fn next_record<'a>(kind: Kind, r: Reader<'a>) -> Found
-    ensures { result ≡ record_at kind r.entry.bytes.now r.entry.at }
-{
-    record_at(kind, r.bytes, r.at)
-}
-
-// The entries of records of a kind from the reader's place on.
-pub fn next_entries<'a, 'b>(kind: Kind, r: Reader<'a>, out: &'b mut [u16]) -> usize
-    ensures { ReadEntries kind r.entry.bytes.now r.entry.at out.old result out.new }
-{
-    entries_at(kind, r.bytes, r.at, out)
-}
-
-// The record of a kind at a place.
-fn record_at(kind: Kind, bytes: &[u8], at: usize) -> Found
-    ensures { result ≡ record_at kind bytes.now at }
-{
-    if !has_record(kind, bytes, at) {
-        return Found::Missing;
-    }
-    let m = mark_of(kind);
-    let first = field_at(bytes, at + 2);
-    if m.fields == 1 {
-        return Found::Record { first, second: 0 };
-    }
-    Found::Record {
-        first,
-        second: field_at(bytes, at + 4),
-    }
-}
-
-// The first fields of the records of a kind that stand one after another from a place on, as many as the lent list takes, into that list.
-// The answer is how many there are before the first place without one.
-fn entries_at(kind: Kind, bytes: &[u8], at: usize, out: &mut [u16]) -> usize
-    ensures { ReadEntries kind bytes.now at out.old result out.new }
-{
-    let step = size(kind);
-    let n = out.len();
-    let mut place = at;
-    let mut i = 0;
-    while i < n {
-        let found = record_at(kind, bytes, place);
-        let Found::Record { first, second: _ } = found else {
-            return i;
-        };
-        out[i] = first;
-        i += 1;
-        place += step;
-    }
-    i
+    at + kind.size()
 }
 
 // Whether a record of a kind stands at a place: all its bytes are there, with its own mark.
 fn has_record(kind: Kind, bytes: &[u8], at: usize) -> bool
     ensures { result ≡ has_record kind bytes.now at }
 {
-    if bytes.len() < at {
+    if bytes.len() < at || bytes.len() - at < kind.size() {
         return false;
     }
-    if bytes.len() - at < size(kind) {
-        return false;
-    }
-    let m = mark_of(kind);
-    if bytes[at] != m.high {
-        return false;
-    }
-    bytes[at + 1] == m.low
+    let mark = kind.mark();
+    bytes[at] == mark.high && bytes[at + 1] == mark.low
 }
 
 // A field: two bytes, high byte first.
@@ -208,9 +186,7 @@ fn field_at(bytes: &[u8], at: usize) -> u16
     requires { at + 1 < length bytes.now }
     ensures { result ≡ field_at bytes.now at }
 {
-    let high = bytes[at];
-    let low = bytes[at + 1];
-    256 * (high as u16) + low as u16
+    u16::from_be_bytes([bytes[at], bytes[at + 1]])
 }
 
 // Writes a field, high byte first.
@@ -218,31 +194,5 @@ fn put_field(bytes: &mut [u8], at: usize, value: u16)
     requires { at + 1 < length bytes.old }
     ensures { bytes.new ≡ sets bytes.old at (field_bytes (value ∷ [])) }
 {
-    bytes[at] = (value / 256) as u8;
-    bytes[at + 1] = (value % 256) as u8;
-}
-
-// The row of a kind in the table.
-fn mark_of(kind: Kind) -> Mark
-    ensures { result ≡ mark_of kind }
-{
-    let i = row(kind);
-    let m = MARKS[i];
-    m
-}
-
-// Where a kind stands in the table.
-fn row(kind: Kind) -> usize
-    ensures { result ≡ row kind }
-{
-    match kind {
-        Kind::Hd => 0,
-        Kind::Nw => 1,
-        Kind::Gl => 2,
-        Kind::Pl => 3,
-        Kind::Lf => 4,
-        Kind::No => 5,
-        Kind::Hl => 6,
-        Kind::Ln => 7,
-    }
+    bytes[at..at + 2].copy_from_slice(&value.to_be_bytes());
 }

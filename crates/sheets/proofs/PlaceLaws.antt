@@ -73,6 +73,3 @@ module _ {at n h k : ℕ} (low : at < 2 ^ 63) (small : n ≤ most) where
 
   pub end_fits : {c : ℕ} → c ≤ most → h ≡ lengths_at at n → k ≡ size Ln → h + c * k < 2 ^ 64
   end_fits few e f = omega (arith, e, lengths_at_lem at n, product few (f ∙ size_ln))
-
-pub sum_of : (n : ℕ) {h k h' k' : ℕ} → h ≡ h' → k ≡ k' → h + n * k ≡ h' + n * k'
-sum_of n e f = ap₂ (λ i j. i + n * j) e f

@@ -4,6 +4,7 @@ use mathlib.Core.Path.{◌≡◌, refl, sym, ◌∙◌, ap, ap₂, subst}
 use mathlib.Core.Logic.{inl, inr}
 use mathlib.Core.Bool.{Bool, true, false, ◌&&◌, cond}
 use mathlib.Core.List.{List, []}
+use Rattle.std.specs.Prelude.{Option, Some, None, Ok, Err}
 use native.Mathlib.Omega.{arith}
 use borrow.Author.Tests.{eq-eqb}
 use lib.ListN.{length, take, length-take}
@@ -13,10 +14,10 @@ use Rattle.lists.proofs.ReflectLaws.{Reflects, holds, fails, eqb_reflects, leb_r
 use Rattle.lists.proofs.WriteLaws.{overwrite_front}
 use Rattle.records.proofs.EntryLaws.{length_entries}
 use Rattle.sheets.specs.declared.Head.{Head}
-use Rattle.sheets.specs.declared.Head.TheVariants.{Missing, There}
-use Rattle.sheets.specs.declared.Sheet.{Sheet}
-use Rattle.sheets.specs.declared.Sheet.TheVariants.{Headless, Long, Broken, Whole}
-use Rattle.sheets.specs.Sheets.{head_at, length_count, nows, goals, lengths, nows_there, goals_there, end_at, body_at, sheet_by, sheet_at}
+use Rattle.sheets.specs.declared.Whole.{Whole}
+use Rattle.sheets.specs.declared.Unread.TheVariants.{Headless, Long, Broken}
+use Rattle.sheets.specs.declared.Entries.{Entries}
+use Rattle.sheets.specs.Sheets.{there, head_at, length_count, nows, goals, lengths, nows_there, goals_there, end_at, Sheet, whole_sheet, body_at, sheet_by, sheet_at}
 use Rattle.sheets.specs.Sheets.{nows_read, goals_behind, goals_read, lengths_behind, lengths_read}
 use Rattle.sheets.specs.Reads.{ReadsSheet}
 use Rattle.sheets.specs.Cases.{IsLong, RecordMissing, IsBroken, IsWhole, Says}
@@ -48,7 +49,7 @@ module _ (bytes : List ℕ) (at : ℕ) where
 
   -- ---- what each case says
 
-  body_says : {t : Bool} {n m : ℕ} → head_at bytes at ≡ There t n m → n ≤ most → Says bytes at (body_at t n m bytes at)
+  body_says : {t : Bool} {n m : ℕ} → head_at bytes at ≡ there t n m → n ≤ most → Says bytes at (body_at t n m bytes at)
   unfolding body_at
   body_says {t} {n} {m} head small =
       by (eqb_reflects (length (nows bytes at n)) n) (eqb_reflects (length (goals bytes at n)) n) (eqb_reflects (length (lengths bytes at n k)) k)
@@ -65,22 +66,22 @@ module _ (bytes : List ℕ) (at : ℕ) where
           → Says bytes at
           (cond a
           (cond b
-          (cond c (Whole n m t (end_at at n (length_count t n))) (Broken m (1 + n + n + length (lengths bytes at n (length_count t n)))))
-          (Broken m (1 + n + length (goals bytes at n))))
-          (Broken m (1 + length (nows bytes at n))))
+          (cond c (whole_sheet n m t (end_at at n (length_count t n))) (Err (Broken m (1 + n + n + length (lengths bytes at n (length_count t n))))))
+          (Err (Broken m (1 + n + length (goals bytes at n)))))
+          (Err (Broken m (1 + length (nows bytes at n)))))
       by (holds e) (holds f) (holds g) = record { head = head; small = small; nows_there_lem = e; goals_there_lem = f; lengths_there_lem = g; end = refl }
       by (holds e) (holds f) (fails g) =
           broken (inr (inr (record { nows_there_lem = e; goals_there_lem = f; few = omega (arith, g, lengths_le n (length_count t n)); place = refl })))
       by (holds e) (fails f) g = broken (inr (inl (record { nows_there_lem = e; few = omega (arith, f, goals_le n); place = refl })))
       by (fails e) f g = broken (inl (record { few = omega (arith, e, nows_le n); place = refl }))
 
-  head_says : (h : Head) → head_at bytes at ≡ h → Says bytes at (sheet_by h bytes at)
-  head_says Missing e = e
-  head_says (There t n m) e = by (leb_reflects n most)
+  head_says : (o : Option Head) → head_at bytes at ≡ o → Says bytes at (sheet_by o bytes at)
+  head_says None e = e
+  head_says (Some h) e = by (leb_reflects h.n most)
     where
-      by : {u : Bool} → Reflects (n ≤ most) u → Says bytes at (cond u (body_at t n m bytes at) (Long m))
+      by : {u : Bool} → Reflects (h.n ≤ most) u → Says bytes at (cond u (body_at h.measured h.n h.method bytes at) (Err (Long h.method)))
       by (holds l) = body_says e l
-      by (fails l) = record { measured = t; n = n; head = e; long = omega (arith, l) }
+      by (fails l) = record { measured = h.measured; n = h.n; head = e; long = omega (arith, l) }
 
   pub sheet_says : Says bytes at (sheet_at bytes at)
   unfolding sheet_at
@@ -102,70 +103,54 @@ module _ {bytes : List ℕ} {at n m : ℕ} {t : Bool} {e : ℕ} (s : IsWhole byt
 
 -- ---- what is known by the case of the answer
 
-module _ {bytes : List ℕ} {at : ℕ} {initial goal lens : List ℕ} {r : Sheet} {initial' goal' lens' : List ℕ}
-    (w : ReadsSheet bytes at initial goal lens r initial' goal' lens') where
-  -- with nothing read the lists are as they were
-  kept : nows_read bytes at ≡ [] → goals_read bytes at ≡ [] → lengths_read bytes at ≡ [] → (initial' ≡ initial) × (goal' ≡ goal) × (lens' ≡ lens)
-  kept e f g = (
-    w.initial_after ∙ ap (λ l. overwrite l initial) e,
-    w.goal_after ∙ ap (λ l. overwrite l goal) f,
-    w.lengths_after ∙ ap (λ l. overwrite l lens) g,
-  )
-
+module _ {bytes : List ℕ} {at : ℕ} {lent : Entries} {r : Sheet} {lent' : Entries} (w : ReadsSheet bytes at lent r lent') where
   pub says : {s : Sheet} → r ≡ s → Says bytes at s
   says {s} e = subst (Says bytes at) (sym w.answer ∙ e) (sheet_says bytes at)
 
-  pub headless : r ≡ Headless → head_at bytes at ≡ Missing
+  pub headless : r ≡ Err Headless → head_at bytes at ≡ None
   headless e = says e
 
-  pub long : {m : ℕ} → r ≡ Long m → IsLong bytes at m
+  pub long : {m : ℕ} → r ≡ Err (Long m) → IsLong bytes at m
   long e = says e
 
-  pub broken : {m p : ℕ} → r ≡ Broken m p → IsBroken bytes at m p
+  pub broken : {m p : ℕ} → r ≡ Err (Broken m p) → IsBroken bytes at m p
   broken e = says e
 
-  -- ---- the lent lists
-
-  -- A head that is not there, and one that says too many, leave them as they were.
-  pub headless_kept : r ≡ Headless → (initial' ≡ initial) × (goal' ≡ goal) × (lens' ≡ lens)
-  headless_kept e = let h = headless e in kept (headless_nows bytes at h) (headless_goals bytes at h) (headless_lengths bytes at h)
-
-  pub long_kept : {m : ℕ} → r ≡ Long m → (initial' ≡ initial) × (goal' ≡ goal) × (lens' ≡ lens)
-  long_kept e =
-      let f = long e in
-      kept (long_nows bytes at f.head f.long) (long_goals bytes at f.head f.long) (long_lengths bytes at f.head f.long)
-
   -- Every entry of a whole sheet stands in its list.
-  module _ {n m : ℕ} {t : Bool} {e : ℕ} (f : r ≡ Whole n m t e) where
-    pub whole : IsWhole bytes at n m t e
+  module _ {s : Whole} (f : r ≡ Ok s) where
+    abbrev k : ℕ
+    k = length_count s.measured s.n
+
+    pub whole : IsWhole bytes at s.n s.method s.measured s.end
     whole = says f
 
-    pub whole_small : n ≤ most
+    pub whole_small : s.n ≤ most
     whole_small = whole.small
 
-    pub whole_initial : take n initial' ≡ nows bytes at n
+    pub whole_initial : take s.n lent'.initial ≡ nows bytes at s.n
     whole_initial =
-        front (nows bytes at n) initial whole.nows_there_lem (w.initial_after ∙ ap (λ l. overwrite l initial) (small_nows bytes at whole.head whole_small))
+        front (nows bytes at s.n) lent.initial whole.nows_there_lem
+        (w.initial_after ∙ ap (λ l. overwrite l lent.initial) (small_nows bytes at whole.head whole_small))
 
-    pub whole_goal : take n goal' ≡ goals bytes at n
+    pub whole_goal : take s.n lent'.goal ≡ goals bytes at s.n
     whole_goal =
-        let all : goals_read bytes at ≡ goals bytes at n = small_goals bytes at whole.head whole_small ∙ goals_behind_lem whole in
-        front (goals bytes at n) goal whole.goals_there_lem (w.goal_after ∙ ap (λ l. overwrite l goal) all)
+        let all : goals_read bytes at ≡ goals bytes at s.n = small_goals bytes at whole.head whole_small ∙ goals_behind_lem whole in
+        front (goals bytes at s.n) lent.goal whole.goals_there_lem (w.goal_after ∙ ap (λ l. overwrite l lent.goal) all)
 
-    pub whole_lengths : take (length_count t n) lens' ≡ lengths bytes at n (length_count t n)
+    pub whole_lengths : take k lent'.lengths ≡ lengths bytes at s.n k
     whole_lengths =
-        let all : lengths_read bytes at ≡ lengths bytes at n (length_count t n) = small_lengths bytes at whole.head whole_small ∙ lengths_behind_lem whole in
-        front (lengths bytes at n (length_count t n)) lens whole.lengths_there_lem (w.lengths_after ∙ ap (λ l. overwrite l lens) all)
+        let all : lengths_read bytes at ≡ lengths bytes at s.n k = small_lengths bytes at whole.head whole_small ∙ lengths_behind_lem whole in
+        front (lengths bytes at s.n k) lent.lengths whole.lengths_there_lem (w.lengths_after ∙ ap (λ l. overwrite l lent.lengths) all)
 
     -- The list has room for them, and its first n numbers can be lent.
-    pub initial_size : n ≡ length (take n initial')
+    pub initial_size : s.n ≡ length (take s.n lent'.initial)
     initial_size = sym (ap length whole_initial ∙ whole.nows_there_lem)
 
-    pub initial_room : n ≤ length initial'
-    initial_room = omega (arith, initial_size, length-take n initial')
+    pub initial_room : s.n ≤ length lent'.initial
+    initial_room = omega (arith, initial_size, length-take s.n lent'.initial)
 
-    pub goal_size : n ≡ length (take n goal')
+    pub goal_size : s.n ≡ length (take s.n lent'.goal)
     goal_size = sym (ap length whole_goal ∙ whole.goals_there_lem)
 
-    pub goal_room : n ≤ length goal'
-    goal_room = omega (arith, goal_size, length-take n goal')
+    pub goal_room : s.n ≤ length lent'.goal
+    goal_room = omega (arith, goal_size, length-take s.n lent'.goal)

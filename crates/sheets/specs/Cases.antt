@@ -1,16 +1,14 @@
 -- What each answer says of the head and of the records behind it. Statements alone; `proofs/SheetLaws.antt` proves them. Assumes nothing.
-use Rattle.std.specs.Prelude.{ℕ, ◌+◌, ◌≤◌, ◌<◌, ◌≡◌, ◌⊎◌, Bool, List, length}
+use Rattle.std.specs.Prelude.{ℕ, ◌+◌, ◌≤◌, ◌<◌, ◌≡◌, ◌⊎◌, Bool, None, Ok, Err, List, length}
 use Rattle.blocks.specs.State.{most}
-use Rattle.sheets.specs.declared.Head.TheVariants.{Missing, There}
-use Rattle.sheets.specs.declared.Sheet.{Sheet}
-use Rattle.sheets.specs.declared.Sheet.TheVariants.{Headless, Long, Broken, Whole}
-use Rattle.sheets.specs.Sheets.{head_at, length_count, nows, goals, lengths, end_at}
+use Rattle.sheets.specs.declared.Unread.TheVariants.{Headless, Long, Broken}
+use Rattle.sheets.specs.Sheets.{there, head_at, length_count, nows, goals, lengths, end_at, Sheet}
 
 -- The head is there, and says more blocks than the limit.
 pub record IsLong (bytes : List ℕ) (at m : ℕ) : Type 0 where
   pub measured : Bool
   pub n : ℕ
-  pub head : head_at bytes at ≡ There measured n m
+  pub head : head_at bytes at ≡ there measured n m
   pub long : most < n
 
 -- The first record that is not there is a NW record, or, behind n NW records, a GL record, or, behind n GL records, one of k LN records. Before it stand p
@@ -37,13 +35,13 @@ RecordMissing bytes at n k p = NowMissing bytes at n p ⊎ GoalMissing bytes at 
 pub record IsBroken (bytes : List ℕ) (at m p : ℕ) : Type 0 where
   pub measured : Bool
   pub n : ℕ
-  pub head : head_at bytes at ≡ There measured n m
+  pub head : head_at bytes at ≡ there measured n m
   pub small : n ≤ most
   pub missing : RecordMissing bytes at n (length_count measured n) p
 
 -- Every record is there, and the sheet ends at e.
 pub record IsWhole (bytes : List ℕ) (at n m : ℕ) (measured : Bool) (e : ℕ) : Type 0 where
-  pub head : head_at bytes at ≡ There measured n m
+  pub head : head_at bytes at ≡ there measured n m
   pub small : n ≤ most
   pub nows_there_lem : length (nows bytes at n) ≡ n
   pub goals_there_lem : length (goals bytes at n) ≡ n
@@ -52,7 +50,7 @@ pub record IsWhole (bytes : List ℕ) (at n m : ℕ) (measured : Bool) (e : ℕ)
 
 -- What a sheet says, by its case.
 abbrev pub Says : List ℕ → ℕ → Sheet → Type 0
-Says bytes at Headless = head_at bytes at ≡ Missing
-Says bytes at (Long m) = IsLong bytes at m
-Says bytes at (Broken m p) = IsBroken bytes at m p
-Says bytes at (Whole n m measured e) = IsWhole bytes at n m measured e
+Says bytes at (Ok w) = IsWhole bytes at w.n w.method w.measured w.end
+Says bytes at (Err Headless) = head_at bytes at ≡ None
+Says bytes at (Err (Long m)) = IsLong bytes at m
+Says bytes at (Err (Broken m p)) = IsBroken bytes at m p

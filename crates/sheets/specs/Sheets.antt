@@ -1,16 +1,15 @@
 -- One sheet's records from a place in the bytes (document 01, "Records of the program" and question 12; document 02, Job 3). Assumes nothing.
-use Rattle.std.specs.Prelude.{ℕ, ◌+◌, ◌*◌, Bool, true, false, ◌&&◌, cond, List, [], leb, eqb, length}
+use Rattle.std.specs.Prelude.{ℕ, ◌+◌, ◌*◌, Bool, true, false, ◌&&◌, cond, Option, Some, None, Result, Ok, Err, List, [], leb, eqb, length}
 use Rattle.blocks.specs.State.{most}
 use Rattle.records.specs.Marks.{size}
 use Rattle.records.specs.Records.{record_at, entries_at}
 use Rattle.records.specs.declared.Kind.{Kind}
 use Rattle.records.specs.declared.Kind.TheVariants.{Hd, Nw, Gl, Hl, Ln}
-use Rattle.records.specs.declared.Found.{Found}
-use Rattle.records.specs.declared.Found.TheVariants as found
+use Rattle.records.specs.declared.Fields.{Fields}
 use Rattle.sheets.specs.declared.Head.{Head}
-use Rattle.sheets.specs.declared.Head.TheVariants.{Missing, There}
-use Rattle.sheets.specs.declared.Sheet.{Sheet}
-use Rattle.sheets.specs.declared.Sheet.TheVariants.{Headless, Long, Broken, Whole}
+use Rattle.sheets.specs.declared.Whole.{Whole}
+use Rattle.sheets.specs.declared.Unread.{Unread}
+use Rattle.sheets.specs.declared.Unread.TheVariants.{Headless, Long, Broken}
 
 -- ---- the head: HD or, of a sheet with lengths, HL
 
@@ -19,13 +18,17 @@ abbrev pub head_kind : Bool → Kind
 head_kind true = Hl
 head_kind false = Hd
 
--- HD's fields, n and the method, by what was found of HD and of HL.
-abbrev pub head_by : Found → Found → Head
-head_by (found.Record n m) h = There false n m
-head_by found.Missing (found.Record n m) = There true n m
-head_by found.Missing found.Missing = Missing
+-- A head that is there, with HD's fields, n and the method.
+abbrev pub there : Bool → ℕ → ℕ → Option Head
+there t n m = Some (record { measured = t; n = n; method = m })
 
-unfoldable pub head_at : List ℕ → ℕ → Head
+-- By what was found of HD and of HL.
+abbrev pub head_by : Option Fields → Option Fields → Option Head
+head_by (Some f) h = there false f.first f.second
+head_by None (Some f) = there true f.first f.second
+head_by None None = None
+
+unfoldable pub head_at : List ℕ → ℕ → Option Head
 head_at bytes at = head_by (record_at Hd bytes at) (record_at Hl bytes at)
 
 -- "has n records LN (4C 4E, one field) after the GL records": as many as the head asks for, none behind HD.
@@ -76,23 +79,31 @@ lengths_there bytes at n k = eqb (length (lengths bytes at n k)) k
 
 -- ---- the answer
 
+-- What stands at a place: a whole sheet, or why there is none.
+abbrev pub Sheet : Type 0
+Sheet = Result Whole Unread
+
+-- Every record of a sheet of n slabs is there, and it ends at e.
+abbrev pub whole_sheet : ℕ → ℕ → Bool → ℕ → Sheet
+whole_sheet n m t e = Ok (record { n = n; method = m; measured = t; end = e })
+
 -- Of k LN records, behind n NW and n GL records that are there.
 abbrev pub behind_goals : Bool → ℕ → ℕ → ℕ → List ℕ → ℕ → Sheet
 behind_goals measured n k m bytes at =
-    cond (lengths_there bytes at n k) (Whole n m measured (end_at at n k)) (Broken m (1 + n + n + length (lengths bytes at n k)))
+    cond (lengths_there bytes at n k) (whole_sheet n m measured (end_at at n k)) (Err (Broken m (1 + n + n + length (lengths bytes at n k))))
 
 -- "then 12 of the other records in order": of a head that says n and m. "Place: the records before it".
 unfoldable pub body_at : Bool → ℕ → ℕ → List ℕ → ℕ → Sheet
 body_at measured n m bytes at =
     cond
     (nows_there bytes at n)
-    (cond (goals_there bytes at n) (behind_goals measured n (length_count measured n) m bytes at) (Broken m (1 + n + length (goals bytes at n))))
-    (Broken m (1 + length (nows bytes at n)))
+    (cond (goals_there bytes at n) (behind_goals measured n (length_count measured n) m bytes at) (Err (Broken m (1 + n + length (goals bytes at n)))))
+    (Err (Broken m (1 + length (nows bytes at n))))
 
 -- n and the method; "n at most 4,000".
-abbrev pub sheet_by : Head → List ℕ → ℕ → Sheet
-sheet_by Missing bytes at = Headless
-sheet_by (There measured n m) bytes at = cond (leb n most) (body_at measured n m bytes at) (Long m)
+abbrev pub sheet_by : Option Head → List ℕ → ℕ → Sheet
+sheet_by None bytes at = Err Headless
+sheet_by (Some h) bytes at = cond (leb h.n most) (body_at h.measured h.n h.method bytes at) (Err (Long h.method))
 
 -- "Put first to the head".
 unfoldable pub sheet_at : List ℕ → ℕ → Sheet
@@ -101,9 +112,9 @@ sheet_at bytes at = sheet_by (head_at bytes at) bytes at
 -- ---- the entries that are read
 
 -- The now entries: none where the head is not there or says too many.
-abbrev pub nows_by : Head → List ℕ → ℕ → List ℕ
-nows_by Missing bytes at = []
-nows_by (There measured n m) bytes at = cond (leb n most) (nows bytes at n) []
+abbrev pub nows_by : Option Head → List ℕ → ℕ → List ℕ
+nows_by None bytes at = []
+nows_by (Some h) bytes at = cond (leb h.n most) (nows bytes at h.n) []
 
 unfoldable pub nows_read : List ℕ → ℕ → List ℕ
 nows_read bytes at = nows_by (head_at bytes at) bytes at
@@ -112,9 +123,9 @@ nows_read bytes at = nows_by (head_at bytes at) bytes at
 unfoldable pub goals_behind : ℕ → List ℕ → ℕ → List ℕ
 goals_behind n bytes at = cond (nows_there bytes at n) (goals bytes at n) []
 
-abbrev pub goals_by : Head → List ℕ → ℕ → List ℕ
-goals_by Missing bytes at = []
-goals_by (There measured n m) bytes at = cond (leb n most) (goals_behind n bytes at) []
+abbrev pub goals_by : Option Head → List ℕ → ℕ → List ℕ
+goals_by None bytes at = []
+goals_by (Some h) bytes at = cond (leb h.n most) (goals_behind h.n bytes at) []
 
 unfoldable pub goals_read : List ℕ → ℕ → List ℕ
 goals_read bytes at = goals_by (head_at bytes at) bytes at
@@ -123,9 +134,9 @@ goals_read bytes at = goals_by (head_at bytes at) bytes at
 unfoldable pub lengths_behind : ℕ → ℕ → List ℕ → ℕ → List ℕ
 lengths_behind n k bytes at = cond (nows_there bytes at n && goals_there bytes at n) (lengths bytes at n k) []
 
-abbrev pub lengths_by : Head → List ℕ → ℕ → List ℕ
-lengths_by Missing bytes at = []
-lengths_by (There measured n m) bytes at = cond (leb n most) (lengths_behind n (length_count measured n) bytes at) []
+abbrev pub lengths_by : Option Head → List ℕ → ℕ → List ℕ
+lengths_by None bytes at = []
+lengths_by (Some h) bytes at = cond (leb h.n most) (lengths_behind h.n (length_count h.measured h.n) bytes at) []
 
 unfoldable pub lengths_read : List ℕ → ℕ → List ℕ
 lengths_read bytes at = lengths_by (head_at bytes at) bytes at

@@ -6,75 +6,122 @@
 ghost use Rattle.std.specs.Prelude.{◌≡◌, ◌≤◌, ◌<◌, ◌^◌};
 ghost use Rattle.blocks.specs.State.{most};
 ghost use Rattle.sheets.specs.Sheets.{head_at, length_count, nows_at, goals_at, lengths_at, end_at};
-ghost use Rattle.sheets.specs.Reads.{ReadsSheet, Lent, Behind, ReadsBody};
+ghost use Rattle.sheets.specs.Reads.{ReadsSheet};
 
-use records::{Found, Kind};
+use records::{Fields, Kind, Reader};
 use rows::MOST;
 
 // A head HD, or HL: then the sheet is measured, and lengths are asked for.
-#[derive(Drop)]
-pub enum Head {
-    Missing,
-    There { measured: bool, n: u16, method: u16 },
+#[derive(Clone, Copy, Debug, PartialEq, Eq)]
+pub struct Head {
+    pub measured: bool,
+    pub n: u16,
+    pub method: u16,
 }
 
-// What stands at a place. The method is carried and not asked about.
-#[derive(Drop)]
-pub enum Sheet {
+// A sheet of which every record is there, and where it ends. The method is carried and not asked about.
+#[derive(Clone, Copy, Debug, PartialEq, Eq)]
+pub struct Whole {
+    pub n: usize,
+    pub method: u16,
+    pub measured: bool,
+    pub end: usize,
+}
+
+// Why no whole sheet stands at a place. The method is carried and not asked about.
+#[derive(Clone, Copy, Debug, PartialEq, Eq)]
+pub enum Unread {
     // The head is not there.
     Headless,
     // The head says more blocks than the limit.
-    Long {
-        method: u16,
-    },
+    Long { method: u16 },
     // A record after the head is not there: so many records stand before it.
-    Broken {
-        method: u16,
-        before: u16,
-    },
-    // Every record is there; where the sheet ends.
-    Whole {
-        n: usize,
-        method: u16,
-        measured: bool,
-        end: usize,
-    },
+    Broken { method: u16, before: u16 },
+}
+
+// Lists for the entries of any sheet.
+#[derive(Drop)]
+pub struct Entries {
+    pub initial: [u16; MOST],
+    pub goal: [u16; MOST],
+    pub lengths: [u16; MOST],
+}
+
+impl Entries {
+    pub fn new() -> Self {
+        Entries {
+            initial: [0; MOST],
+            goal: [0; MOST],
+            lengths: [0; MOST],
+        }
+    }
 }
 
 // Reads the sheet at a place of the bytes, its entries to the front of the lent lists.
-pub fn read_sheet(
-    bytes: &[u8],
-    at: usize,
-    initial: &mut [u16; MOST],
-    goal: &mut [u16; MOST],
-    lengths: &mut [u16; MOST],
-) -> Sheet
-    ensures { ReadsSheet bytes.now at initial.old goal.old lengths.old result initial.new goal.new lengths.new }
+#[tactic(auto, using(crate::proofs::HeadLaws::head_room))]
+pub fn read_sheet(bytes: &[u8], at: usize, entries: &mut Entries) -> Result<Whole, Unread>
+    ensures { ReadsSheet bytes.now at entries.old result entries.new }
 {
-    read_into(bytes, at, initial, goal, lengths)
+    let Head {
+        measured,
+        n,
+        method,
+    } = read_head(bytes, at).ok_or(Unread::Headless)?;
+    let n = usize::from(n);
+    if MOST < n {
+        return Err(Unread::Long { method });
+    }
+    let nows = Reader::new(bytes, nows_at(at)).entries(Kind::Nw, &mut entries.initial[..n]);
+    if nows < n {
+        return Err(Unread::Broken {
+            method,
+            before: (1 + nows) as u16,
+        });
+    }
+    let goals = Reader::new(bytes, goals_at(at, n)).entries(Kind::Gl, &mut entries.goal[..n]);
+    if goals < n {
+        return Err(Unread::Broken {
+            method,
+            before: (1 + n + goals) as u16,
+        });
+    }
+    let k = length_count(measured, n);
+    let measures = Reader::new(bytes, lengths_at(at, n)).entries(
+        Kind::Ln,
+        &mut entries.lengths[..k],
+    );
+    if measures < k {
+        return Err(Unread::Broken {
+            method,
+            before: (1 + n + n + measures) as u16,
+        });
+    }
+    Ok(Whole {
+        n,
+        method,
+        measured,
+        end: end_at(at, n, k),
+    })
 }
 
 // The head at a place.
-pub fn read_head(bytes: &[u8], at: usize) -> Head
+pub fn read_head(bytes: &[u8], at: usize) -> Option<Head>
     ensures { result ≡ head_at bytes.now at }
 {
-    let plain = records::read_record(Kind::Hd, bytes, at);
-    if let Found::Record { first, second } = plain {
-        return Head::There {
+    let reader = Reader::new(bytes, at);
+    if let Some(Fields { first, second }) = reader.record(Kind::Hd) {
+        return Some(Head {
             measured: false,
             n: first,
             method: second,
-        };
+        });
     }
-    let head = records::read_record(Kind::Hl, bytes, at);
-    let Found::Record { first, second } = head else {
-        return Head::Missing;
-    };
-    Head::There {
+    let Fields { first, second } = reader.record(Kind::Hl)?;
+    Some(Head {
         measured: true,
         n: first,
         method: second,
-    }
+    })
 }
 
 // How many LN records a head asks for. The second part of the contract follows from the first: with it the sums of a caller need no proof.
@@ -84,92 +131,12 @@ pub fn length_count(measured: bool, n: usize) -> usize
     if measured { n } else { 0 }
 }
 
-// The same as `read_sheet`, into lists that are long enough for any sheet.
-fn read_into(
-    bytes: &[u8],
-    at: usize,
-    initial: &mut [u16],
-    goal: &mut [u16],
-    lengths: &mut [u16],
-) -> Sheet
-    requires { Lent initial.old goal.old lengths.old }
-    ensures { ReadsSheet bytes.now at initial.old goal.old lengths.old result initial.new goal.new lengths.new }
-{
-    let head = read_head(bytes, at);
-    let Head::There {
-        measured,
-        n: first,
-        method,
-    } = head
-    else {
-        return Sheet::Headless;
-    };
-    let n = lists::wide(first);
-    if MOST < n {
-        return Sheet::Long { method };
-    }
-    let k = length_count(measured, n);
-    read_body(
-        method,
-        measured,
-        bytes,
-        at,
-        &mut initial[..n],
-        &mut goal[..n],
-        &mut lengths[..k],
-    )
-}
-
-// Reads the records behind a head at a place, into lists just long enough for their entries.
-fn read_body(
-    method: u16,
-    measured: bool,
-    bytes: &[u8],
-    at: usize,
-    initial: &mut [u16],
-    goal: &mut [u16],
-    lengths: &mut [u16],
-) -> Sheet
-    requires { Behind measured bytes.now at initial.old goal.old lengths.old }
-    ensures { ReadsBody method measured bytes.now at initial.old goal.old lengths.old result initial.new goal.new lengths.new }
-{
-    let n = initial.len();
-    let nows = records::read_entries(Kind::Nw, bytes, nows_at(at), initial);
-    if nows < n {
-        return Sheet::Broken {
-            method,
-            before: (1 + nows) as u16,
-        };
-    }
-    let goals = records::read_entries(Kind::Gl, bytes, goals_at(at, n), goal);
-    if goals < n {
-        return Sheet::Broken {
-            method,
-            before: (1 + n + goals) as u16,
-        };
-    }
-    let k = lengths.len();
-    let measures = records::read_entries(Kind::Ln, bytes, lengths_at(at, n), lengths);
-    if measures < k {
-        return Sheet::Broken {
-            method,
-            before: (1 + n + n + measures) as u16,
-        };
-    }
-    Sheet::Whole {
-        n,
-        method,
-        measured,
-        end: end_at(at, n, k),
-    }
-}
-
 // Where the NW records begin, behind a head at a place.
 fn nows_at(at: usize) -> usize
     requires { at < 2 ^ 63 }
     ensures { result ≡ nows_at at }
 {
-    at + records::size(Kind::Hd)
+    at + Kind::Hd.size()
 }
 
 // Where the GL records begin.
@@ -178,7 +145,7 @@ fn goals_at(at: usize, n: usize) -> usize
     requires n_le_most { n ≤ most }
     ensures { result ≡ goals_at at n }
 {
-    nows_at(at) + n * records::size(Kind::Nw)
+    nows_at(at) + n * Kind::Nw.size()
 }
 
 // Where the LN records begin.
@@ -187,7 +154,7 @@ fn lengths_at(at: usize, n: usize) -> usize
     requires n_le_most { n ≤ most }
     ensures { result ≡ lengths_at at n }
 {
-    goals_at(at, n) + n * records::size(Kind::Gl)
+    goals_at(at, n) + n * Kind::Gl.size()
 }
 
 // Where the sheet ends, behind k LN records.
@@ -196,5 +163,5 @@ fn end_at(at: usize, n: usize, k: usize) -> usize
     requires n_le_most { (n ≤ most) × (k ≤ most) }
     ensures { result ≡ end_at at n k }
 {
-    lengths_at(at, n) + k * records::size(Kind::Ln)
+    lengths_at(at, n) + k * Kind::Ln.size()
 }

@@ -26,14 +26,6 @@ use Rattle.towers.proofs.BottomLaws.{Base, bottom_is, bottom_block}
 use Rattle.towers.proofs.FillLaws.{free_clear, taken_covered}
 use Rattle.towers.proofs.HighLaws.{stands_right, right_stands}
 
--- ---- one of two
-
-pub way_taken : {t u : Bool} {c : ℕ} (e : ℕ) → t ≡ u → t ≡ true → c ≡ cond u c e
-way_taken e q h = rw (← q, h)
-
-pub way_free : {t u : Bool} {y e : ℕ} (c : ℕ) → t ≡ u → t ≡ false → y ≡ e → y ≡ cond u c e
-way_free c q h f = rw (← q, h) f
-
 -- ---- a misplaced block, and the bottom of its goal tower
 
 module _ {s g : State} {yd : Yard} {b : ℕ} (w : Linked s g yd) (m : Misplaced s g b) where

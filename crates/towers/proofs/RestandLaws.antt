@@ -6,7 +6,6 @@ use mathlib.Core.Logic.{◌⊎◌, inl, inr, ◌≢◌, ◌↔◌}
 use mathlib.Core.Bool.{Bool, cond}
 use mathlib.Core.List.{List}
 use native.Mathlib.Omega.{arith}
-use borrow.Author.Tests.{eq-eqb, ne_eqb}
 use lib.Dec.{eqb}
 use lib.ListN.{length, get_or, set, length-set}
 use lib.Seq.{get_or-set_same, get_or-set_other}
@@ -239,13 +238,3 @@ module _ {s g : State} {a x : ℕ} (problem : Problem s g) (move : Moves s g a x
         either (λ z. Highs (put s a x) g (highs_of z)) (store y 6 (get_or (goal_bottoms_of y) a 0) a) y
         (λ e. rw (stored y 6 (get_or (goal_bottoms_of y) a 0) a (omega (arith, sized.rows))) (highs_home problem move e roots w refl))
         (λ n. highs_off problem move n w)
-
--- the ways out of the code: z is what was read as the goal support
-pub kept_row : {A : Type 0} {x z : ℕ} (w : ℕ) (v u : A) → z ≡ w → x ≢ z → u ≡ cond (eqb x w) v u
-kept_row {x = x} w v u e n = rw (ne_eqb x w (λ q. n (q ∙ sym e)))
-
-pub written_row : {A : Type 0} {x z : ℕ} (w : ℕ) (v u : A) → z ≡ w → x ≡ z → v ≡ cond (eqb x w) v u
-written_row {x = x} w v u e h = rw (eq-eqb x w (h ∙ e))
-
-pub raised_row : {x z r : ℕ} (g : State) (a : ℕ) (y : Yard) → z ≡ get_or g (a - 1) 0 → x ≡ z → r ≡ get_or (goal_bottoms_of y) a 0 → store y 6 r a ≡ raised g a x y
-raised_row {x = x} g a y e h f = rw f (written_row (get_or g (a - 1) 0) (store y 6 (get_or (goal_bottoms_of y) a 0) a) y e h)

@@ -4,7 +4,7 @@
 #![tactic(auto)]
 
 ghost use Rattle.std.specs.Prelude.{◌≡◌, not, ◌&&◌, cond, ◌-◌, ◌≤◌, ◌<◌, eqb, length, get_or};
-ghost use Rattle.rows.specs.Rows.{loads_of, goal_loads_of, row_size, row_count};
+ghost use Rattle.rows.specs.Rows.{loads_of, goal_loads_of, row_size};
 ghost use Rattle.blocks.specs.State.{State};
 ghost use Rattle.blocks.specs.Position.{Misplaced};
 ghost use Rattle.blocks.specs.Tests.{position, nearest};
@@ -16,14 +16,15 @@ ghost use Rattle.towers.specs.Walks.{Standing, Markable, Marked, Descending, Fir
 use rows::{BOTTOMS, GOAL_BOTTOMS, GOAL_LOADS, HIGHS, LOADS, STANDS, TOPS, Yard};
 
 // How a block stands: in position, or misplaced above c, the nearest block beneath it in its goal tower that is in position, 0 for the table.
-#[derive(Drop)]
+// An enum and no Option: `None` would not say which of the two answers of the position test it is.
+#[derive(Clone, Copy, Debug, PartialEq, Eq)]
 pub enum Position {
     InPosition,
     MisplacedAbove { c: usize },
 }
 
 // Where the good part of a misplaced block's goal tower ends (c), what is in its way, and the block to move first: its successor.
-#[derive(Drop)]
+#[derive(Clone, Copy, Debug, PartialEq, Eq)]
 pub struct Blocked {
     pub above: usize,
     pub by: usize,
@@ -36,14 +37,11 @@ pub fn fill_towers(s: &[u16], yard: &mut Yard, loads: usize, bottoms: usize)
     ensures { Filled s.now bottoms yard.old yard.new }
 {
     let tops = bottoms + 1;
-    let n = s.len();
-    let mut i = 0;
-    while i < n {
-        i += 1;
-        if yard[loads][i] == 0 {
-            let r = bottom_of(s, i);
-            mark_tower(s, i, r, &mut yard[bottoms]);
-            yard[tops][r] = i as u16;
+    for b in 1..=s.len() {
+        if yard[loads][b] == 0 {
+            let r = bottom_of(s, b);
+            mark_tower(s, b, r, &mut yard[bottoms]);
+            yard[tops][r] = b as u16;
         }
     }
 }
@@ -55,7 +53,7 @@ fn bottom_of(s: &[u16], b: usize) -> usize
 {
     let mut c = b;
     loop {
-        let x = lists::wide(s[c - 1]);
+        let x = usize::from(s[c - 1]);
         if x == 0 {
             return c;
         }
@@ -71,7 +69,7 @@ fn mark_tower(s: &[u16], t: usize, r: usize, bottoms: &mut [u16])
     let mut c = t;
     while c != 0 {
         bottoms[c] = r as u16;
-        c = lists::wide(s[c - 1]);
+        c = usize::from(s[c - 1]);
     }
 }
 
@@ -80,13 +78,10 @@ pub fn fill_highs(goal: &[u16], yard: &mut Yard)
     requires { Climbable goal.now yard.old }
     ensures { Climbed goal.now yard.old yard.new }
 {
-    let n = goal.len();
-    let mut i = 0;
-    while i < n {
-        i += 1;
-        if yard[GOAL_LOADS][i] == 0 {
-            let r = lists::wide(yard[GOAL_BOTTOMS][i]);
-            yard[HIGHS][r] = first_in_position(goal, &yard[STANDS], i) as u16;
+    for b in 1..=goal.len() {
+        if yard[GOAL_LOADS][b] == 0 {
+            let r = usize::from(yard[GOAL_BOTTOMS][b]);
+            yard[HIGHS][r] = first_in_position(goal, &yard[STANDS], b) as u16;
         }
     }
 }
@@ -98,7 +93,7 @@ fn first_in_position(goal: &[u16], stands: &[u16], t: usize) -> usize
 {
     let mut c = t;
     while !problem::in_position(stands, c) {
-        c = lists::wide(goal[c - 1]);
+        c = usize::from(goal[c - 1]);
     }
     c
 }
@@ -109,7 +104,7 @@ pub fn shift(s: &[u16], yard: &mut Yard, a: usize, x: usize)
     requires { Shifting s.now yard.old a x }
     ensures { Shifted s.now a x yard.old yard.new }
 {
-    let u = lists::wide(s[a - 1]);
+    let u = usize::from(s[a - 1]);
     let left = entry_or(&yard[BOTTOMS], u, 0);
     let joined = entry_or(&yard[BOTTOMS], x, a);
     yard[TOPS][left] = u as u16;
@@ -122,7 +117,7 @@ fn entry_or(l: &[u16], x: usize, y: usize) -> usize
     requires { x < length l.now }
     ensures { result ≡ cond (eqb x 0) y (get_or l.now x 0) }
 {
-    if x == 0 { y } else { lists::wide(l[x]) }
+    if x == 0 { y } else { usize::from(l[x]) }
 }
 
 // How the blocks stand after a move of a to x: a comes into position where x is its goal support.
@@ -130,11 +125,9 @@ pub fn restand(goal: &[u16], stands: &mut [u16], a: usize, x: usize)
     requires { (1 ≤ a) × (a - 1 < length goal.now) × (a < length stands.old) }
     ensures { stands.new ≡ restood goal.now a x stands.old }
 {
-    let y = lists::wide(goal[a - 1]);
-    if x != y {
-        return;
+    if x == usize::from(goal[a - 1]) {
+        stands[a] = 2;
     }
-    stands[a] = 2;
 }
 
 // The highest blocks in position after such a move: a is that of its goal tower where it comes into position.
@@ -142,12 +135,10 @@ pub fn raise(goal: &[u16], yard: &mut Yard, a: usize, x: usize)
     requires { Raisable goal.now yard.old a }
     ensures { yard.new ≡ raised goal.now a x yard.old }
 {
-    let y = lists::wide(goal[a - 1]);
-    if x != y {
-        return;
+    if x == usize::from(goal[a - 1]) {
+        let r = usize::from(yard[GOAL_BOTTOMS][a]);
+        yard[HIGHS][r] = a as u16;
     }
-    let r = lists::wide(yard[GOAL_BOTTOMS][a]);
-    yard[HIGHS][r] = a as u16;
 }
 
 // The position test, in whatever problem the rows are of: the highest block in position of its goal tower is c of every misplaced block.
@@ -158,9 +149,9 @@ pub fn position_of(yard: &Yard, b: usize) -> Position
     if problem::in_position(&yard[STANDS], b) {
         return Position::InPosition;
     }
-    let r = lists::wide(yard[GOAL_BOTTOMS][b]);
+    let r = usize::from(yard[GOAL_BOTTOMS][b]);
     Position::MisplacedAbove {
-        c: lists::wide(yard[HIGHS][r]),
+        c: usize::from(yard[HIGHS][r]),
     }
 }
 
@@ -169,8 +160,7 @@ fn nearest(yard: &Yard, b: usize) -> usize
     requires { Askable yard.now b }
     ensures { (s g : State) → Linked s g yard.now → b ≤ length s → result ≡ nearest s g b }
 {
-    let position = position_of(yard, b);
-    match position {
+    match position_of(yard, b) {
         Position::InPosition => 0,
         Position::MisplacedAbove { c } => c,
     }
@@ -182,14 +172,14 @@ pub fn find(yard: &Yard, b: usize) -> Blocked
     ensures { (s g : State) → Linked s g yard.now → Misplaced s g b → Found s g b result }
 {
     let above = nearest(yard, b);
-    let by = in_the_way(yard, lists::wide(yard[GOAL_BOTTOMS][b]), above);
-    let next = lists::wide(yard[TOPS][lists::wide(yard[BOTTOMS][by])]);
+    let by = in_the_way(yard, usize::from(yard[GOAL_BOTTOMS][b]), above);
+    let next = usize::from(yard[TOPS][usize::from(yard[BOTTOMS][by])]);
     Blocked { above, by, next }
 }
 
 // c where something rests on it, else what rests on c in the goal: for the table that is r, the bottom of the goal tower asked for.
 fn in_the_way(yard: &Yard, r: usize, c: usize) -> usize
-    requires { (length yard.now ≡ row_count) × (c < row_size) }
+    requires { c < row_size }
     ensures { result ≡ cond (not (eqb c 0) && not (eqb (get_or (loads_of yard.now) c 0) 0)) c (cond (eqb c 0) r (get_or (goal_loads_of yard.now) c 0)) }
 {
     if problem::taken(&yard[LOADS], c) {

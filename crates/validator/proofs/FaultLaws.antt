@@ -1,5 +1,6 @@
 -- The tests of one move, each beside its question: where a test fails and those before it pass, its number is the fault. Assumes nothing.
-use Prim.Native.Nat.{ℕ, suc, ◌-◌, ◌≤◌, ◌<◌}
+use Rattle.std.specs.Prelude.{Ok, Err}
+use Prim.Native.Nat.{ℕ, ◌-◌, ◌≤◌, ◌<◌}
 use mathlib.Core.Path.{◌≡◌, refl, sym, ◌∙◌}
 use mathlib.Core.Logic.{◌⊎◌, inl, inr, ◌≢◌}
 use mathlib.Core.Bool.{Bool, true, false, not, ◌&&◌}
@@ -18,7 +19,9 @@ use Rattle.blocks.proofs.ClearLaws.{clear_test, clear_table}
 use Rattle.blocks.proofs.ReplayLaws.{move_decides, move_yes}
 use Rattle.blocks.proofs.QuestionLaws.{first_no_lem}
 use Rattle.problem.specs.Known.{Loads}
-use Rattle.validator.specs.Replayed.{fault_of}
+use Rattle.validator.specs.Replayed.{verdict_of, fault_of}
+use Rattle.validator.specs.declared.Fault.{Fault}
+use Rattle.validator.specs.declared.Fault.TheVariants.{Unknown, Covered, Idle, Taken}
 
 -- ---- clear, from the loads
 
@@ -40,53 +43,53 @@ module _ {s : State} {l : List ℕ} (w : Loads s l) where
 
 module _ (s : State) (a x : ℕ) where
   -- a bad move is the first "no"
-  bad : (v : ℕ) → FirstNo (move_questions s a x) (suc v) 0 → fault_of (suc v) ≡ first_no (move_questions s a x)
-  bad v b = sym ((first_no_lem (move_questions s a x) (move_decides s a x) (no' (suc v) 0)).1 b)
+  bad : (f : Fault) → FirstNo (move_questions s a x) (verdict_of f) 0 → fault_of (Err f) ≡ first_no (move_questions s a x)
+  bad f b = sym ((first_no_lem (move_questions s a x) (move_decides s a x) (no' (verdict_of f) 0)).1 b)
 
-  pub no_block : a < 1 → fault_of 1 ≡ first_no (move_questions s a x)
+  pub no_block : a < 1 → fault_of (Err Unknown) ≡ first_no (move_questions s a x)
   unfolding move_questions
-  no_block h = bad 0 (inl (refl, (refl, λ y. omega (arith, y.0.low))))
+  no_block h = bad Unknown (inl (refl, (refl, λ y. omega (arith, y.0.low))))
 
-  pub above_blocks : length s < a → fault_of 1 ≡ first_no (move_questions s a x)
+  pub above_blocks : length s < a → fault_of (Err Unknown) ≡ first_no (move_questions s a x)
   unfolding move_questions
-  above_blocks h = bad 0 (inl (refl, (refl, λ y. omega (arith, y.0.high))))
+  above_blocks h = bad Unknown (inl (refl, (refl, λ y. omega (arith, y.0.high))))
 
-  pub outside : length s < x → fault_of 1 ≡ first_no (move_questions s a x)
+  pub outside : length s < x → fault_of (Err Unknown) ≡ first_no (move_questions s a x)
   unfolding move_questions
-  outside h = bad 0 (inl (refl, (refl, λ y. omega (arith, y.1))))
+  outside h = bad Unknown (inl (refl, (refl, λ y. omega (arith, y.1))))
 
   module _ {l : List ℕ} (w : Loads s l) (low : 1 ≤ a) (high : a ≤ length s) (inside : x ≤ length s) where
     block : Block s a
     block = record { low = low; high = high }
 
-    pub covered : get_or l a 0 ≢ 0 → fault_of 2 ≡ first_no (move_questions s a x)
+    pub covered : get_or l a 0 ≢ 0 → fault_of (Err Covered) ≡ first_no (move_questions s a x)
     unfolding move_questions
-    covered n = bad 1 (inr ((block, inside), inl (refl, (refl, λ y. n (from_true (eqb_reflects (get_or l a 0) 0) (to_true (block_clear w a low high) y))))))
+    covered n = bad Covered (inr ((block, inside), inl (refl, (refl, λ y. n (from_true (eqb_reflects (get_or l a 0) 0) (to_true (block_clear w a low high) y))))))
 
     module _ (free : get_or l a 0 ≡ 0) {u : ℕ} (is : u ≡ get_or s (a - 1) 0) where
       clear : Clear s a
       clear = from_true (block_clear w a low high) (eq-eqb (get_or l a 0) 0 free)
 
-      pub already : x ≡ u → fault_of 3 ≡ first_no (move_questions s a x)
+      pub already : x ≡ u → fault_of (Err Idle) ≡ first_no (move_questions s a x)
       unfolding move_questions
-      already e = bad 2 (inr ((block, inside), inr (clear, inl (refl, (refl, λ n. n (e ∙ is ∙ sym (support_at s a low)))))))
+      already e = bad Idle (inr ((block, inside), inr (clear, inl (refl, (refl, λ n. n (e ∙ is ∙ sym (support_at s a low)))))))
 
       module _ (new : x ≡ u → ⊥) where
         changes : x ≢ support s a
         changes e = new (e ∙ support_at s a low ∙ sym is)
 
-        pub itself : x ≡ a → fault_of 4 ≡ first_no (move_questions s a x)
+        pub itself : x ≡ a → fault_of (Err Taken) ≡ first_no (move_questions s a x)
         unfolding move_questions
-        itself e = bad 3 (inr ((block, inside), inr (clear, inr (changes, inl (refl, (refl, λ y. y.0 e))))))
+        itself e = bad Taken (inr ((block, inside), inr (clear, inr (changes, inl (refl, (refl, λ y. y.0 e))))))
 
         module _ (apart : x ≡ a → ⊥) {t : Bool} (tells : t ≡ (not (eqb x 0) && not (eqb (get_or l x 0) 0))) where
-          pub occupied : t ≡ true → fault_of 4 ≡ first_no (move_questions s a x)
+          pub occupied : t ≡ true → fault_of (Err Taken) ≡ first_no (move_questions s a x)
           unfolding move_questions
           occupied e =
               let taken = from_true (target_clear w x inside) (sym tells ∙ e) in
-              bad 3 (inr ((block, inside), inr (clear, inr (changes, inl (refl, (refl, λ y. taken y.1))))))
+              bad Taken (inr ((block, inside), inr (clear, inr (changes, inl (refl, (refl, λ y. taken y.1))))))
 
-          pub legal : t ≡ false → fault_of 0 ≡ first_no (move_questions s a x)
+          pub legal : t ≡ false → fault_of (Ok tt) ≡ first_no (move_questions s a x)
           legal e = sym ((move_yes s a x).1 (
               record {
                 block = block;

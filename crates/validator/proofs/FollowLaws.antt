@@ -1,4 +1,5 @@
 -- Following a list of pairs: what the loop knows after k moves, and what each of its ways out answers. Assumes nothing.
+use Rattle.std.specs.Prelude.{Some, None, Ok, Err}
 use Prim.Native.Nat.{ℕ, zero, suc, ◌+◌, ◌*◌, ◌/◌, ◌≤◌, ◌<◌}
 use mathlib.Core.Path.{◌≡◌, refl, sym, ap, ap₂, ◌∙◌}
 use mathlib.Core.Logic.{◌≢◌}
@@ -19,8 +20,11 @@ use Rattle.blocks.proofs.StateLaws.{length-put}
 use Rattle.blocks.proofs.FrameLaws.{proper_moved}
 use Rattle.blocks.proofs.ReplayLaws.{lift_yes}
 use Rattle.problem.specs.Known.{Movable, MovedTo}
-use Rattle.validator.specs.Replayed.{fault_of, Followable, Follows}
-use Rattle.validator.specs.declared.Replayed.TheVariants.{Judged}
+use Rattle.lists.specs.Search.{nonzero}
+use Rattle.lists.proofs.NonzeroLaws.{none_zero, some_is, some_nonzero}
+use Rattle.validator.specs.Replayed.{verdict_of, answer_of, fault_of, Followable, Follows}
+use Rattle.validator.specs.declared.Fault.{Fault}
+use Rattle.validator.specs.declared.Verdict.TheVariants.{Arrives as arrived, Bad, Elsewhere}
 
 pub record Following (h : Sheet) (list : List ℕ) (n k : ℕ) (cur l : List ℕ) : Type 0 where
   pub known : Followable h cur list l
@@ -62,20 +66,15 @@ module _ {sheet : Sheet} {list cur l : List ℕ} {n k : ℕ} (w : Following shee
     unrolled = sym (ap (replay_from sheet (suc k) cur) next_pair) ∙ w.answer
 
     -- a bad move ends with its verdict and its place
-    pub bad_way : {v : ℕ} → fault_of v ≡ first_no (lift_questions sheet.lengths cur a x) → v ≢ 0 → Follows sheet list (Judged v (k + 1))
-    bad_way {v} f m = by v f m
-      where
-        by : (u : ℕ) → fault_of u ≡ first_no (lift_questions sheet.lengths cur a x) → u ≢ 0 → Follows sheet list (Judged u (k + 1))
-        by zero e z = absurd (z refl)
-        by (suc u) e z =
-            record {
-              judged = refl;
-              answer = ap (λ p. record { number = 0; verdict = suc u; place = p }) (add-one k) ∙ ap (λ q. or_bad q (suc k) onward) e ∙ unrolled;
-            }
+    pub bad_way : {f : Fault} → fault_of (Err f) ≡ first_no (lift_questions sheet.lengths cur a x) → Follows sheet list (Bad f (k + 1))
+    bad_way {f} e =
+        record {
+          answer = ap (λ p. record { number = 0; verdict = verdict_of f; place = p }) (add-one k) ∙ ap (λ q. or_bad q (suc k) onward) e ∙ unrolled;
+        }
 
-    module _ {v : ℕ} (f : fault_of v ≡ first_no (lift_questions sheet.lengths cur a x)) (z : v ≡ 0) where
+    module _ (f : fault_of (Ok tt) ≡ first_no (lift_questions sheet.lengths cur a x)) where
       legal : Legal cur a x
-      legal = ((lift_yes sheet.lengths cur a x).0 (sym f ∙ ap fault_of z)).0
+      legal = ((lift_yes sheet.lengths cur a x).0 (sym f)).0
 
       pub movable : Movable cur l a x
       movable =
@@ -99,7 +98,7 @@ module _ {sheet : Sheet} {list cur l : List ℕ} {n k : ℕ} (w : Following shee
             within = omega arith;
             answer =
                 ap₂ (λ j t. replay_from sheet (suc j) t (moves (drop (2 * (k + 1)) list))) (add-one k) m.state
-                ∙ ap (λ q. or_bad q (suc k) onward) (ap fault_of (sym z) ∙ f)
+                ∙ ap (λ q. or_bad q (suc k) onward) f
                 ∙ unrolled;
           }
 
@@ -110,12 +109,13 @@ module _ {sheet : Sheet} {list cur l : List ℕ} {n k : ℕ} (w : Following shee
       let over : length list ≤ 2 * k = omega (arith, w.all, w.known.even) in
       sym (ap (λ r. replay_from sheet (suc k) cur (moves r)) (drop_of_length-le list over)) ∙ w.answer
 
-  pub differs_way : {p : ℕ} → n ≤ k → p ≡ first_difference cur sheet.goal → p ≢ 0 → Follows sheet list (Judged 5 p)
-  differs_way {p} h e m = by p e m
+  pub differs_way : {p : ℕ} → n ≤ k → Some p ≡ nonzero (first_difference cur sheet.goal) → Follows sheet list (Elsewhere p)
+  differs_way {p} h e =
+      record { answer = by p (some_nonzero (first_difference cur sheet.goal) (sym e)) ∙ ap arrival (sym (some_is (first_difference cur sheet.goal) (sym e))) ∙ ended h }
     where
-      by : (q : ℕ) → q ≡ first_difference cur sheet.goal → q ≢ 0 → Follows sheet list (Judged 5 q)
-      by zero f z = absurd (z refl)
-      by (suc q) f z = record { judged = refl; answer = ap arrival f ∙ ended h }
+      by : (q : ℕ) → q ≢ 0 → answer_of (Ok (Elsewhere q)) ≡ arrival q
+      by zero z = absurd (z refl)
+      by (suc q) z = refl
 
-  pub arrives_way : {p : ℕ} → n ≤ k → p ≡ first_difference cur sheet.goal → p ≡ 0 → Follows sheet list (Judged 0 0)
-  arrives_way h e z = record { judged = refl; answer = ap arrival (sym z ∙ e) ∙ ended h }
+  pub arrives_way : n ≤ k → None ≡ nonzero (first_difference cur sheet.goal) → Follows sheet list arrived
+  arrives_way h e = record { answer = ap arrival (sym (none_zero (first_difference cur sheet.goal) (sym e))) ∙ ended h }

@@ -6,149 +6,162 @@ ghost use Rattle.std.specs.Prelude.{◌≡◌};
 ghost use Rattle.blocks.specs.Question.{first_no};
 ghost use Rattle.blocks.specs.Replay.{move_questions, lift_questions};
 ghost use Rattle.blocks.specs.Length.{Counted};
-ghost use Rattle.lengths.specs.Checks.{lengths_of, sheet_of};
+ghost use Rattle.blocks.specs.Sheet.{measured_by};
+ghost use Rattle.lengths.specs.Checks.{given_in, sheet_of};
 ghost use Rattle.problem.specs.Known.{Loads};
-ghost use Rattle.validator.specs.Replayed.{fault_of, Replays, Followable, Follows};
+ghost use Rattle.validator.specs.Replayed.{verdict_of, number_of, place_of, fault_of, Replays, Followable, Follows};
 
-use lengths::Given;
-use problem::Checked;
+use lengths::Sheet;
+use refusals::{Question, Refusal};
 use rows::{CHECKED, LOADS, MOST, ROW};
 
-// The answer to a replay: the number and place of the first "no", or a verdict with its place.
-#[derive(Drop)]
-pub enum Replayed {
-    Refused { number: u16, place: u16 },
-    Judged { verdict: u16, place: usize },
+// What is wrong with a move, by the test that it fails, with that test's verdict.
+#[derive(Clone, Copy, Debug, PartialEq, Eq)]
+pub enum Fault {
+    Unknown = 1,
+    Covered = 2,
+    Idle = 3,
+    Taken = 4,
+    TooLong = 6,
+}
+
+impl Fault {
+    // The verdict by which the documents know the fault.
+    pub fn verdict(self) -> u16
+        ensures { result ≡ verdict_of self }
+    {
+        self as u16
+    }
+}
+
+// The verdict on a list: it arrives, or a move is bad, or a block stands elsewhere at the end.
+#[derive(Clone, Copy, Debug, PartialEq, Eq)]
+pub enum Verdict {
+    Arrives,
+    Bad { fault: Fault, lift: usize },
+    Elsewhere { block: usize },
+}
+
+impl Verdict {
+    // The number by which the documents know the verdict.
+    pub fn number(self) -> u16
+        ensures { result ≡ number_of self }
+    {
+        match self {
+            Verdict::Arrives => 0,
+            Verdict::Bad { fault, .. } => fault.verdict(),
+            Verdict::Elsewhere { .. } => 5,
+        }
+    }
+
+    // Its place: the bad move, counted from 1, or the block; 0 where there is none.
+    pub fn place(self) -> usize
+        ensures { result ≡ place_of self }
+    {
+        match self {
+            Verdict::Arrives => 0,
+            Verdict::Bad { lift, .. } => lift,
+            Verdict::Elsewhere { block } => block,
+        }
+    }
 }
 
 // The questions of a sheet and 11, and then the verdict of the list, for any lists.
-pub fn validate(
-    given: Given,
-    initial: &[u16],
-    goal: &[u16],
-    lengths: &[u16],
-    moves: &[u16],
-) -> Replayed
-    ensures { Replays (sheet_of given initial.now goal.now lengths.now) moves.now result }
+pub fn validate(sheet: Sheet, moves: &[u16]) -> Result<Verdict, Refusal>
+    ensures { Replays (sheet_of sheet.entry) moves.now result }
 {
     let mut rows = [[0u16; ROW]; CHECKED];
-    let checked = lengths::examine(given, initial, goal, lengths, &mut rows);
-    if let Checked::Refused { number, place } = checked {
-        return Replayed::Refused { number, place };
-    }
+    lengths::examine(sheet, &mut rows)?;
     if moves.len() % 2 != 0 {
-        return Replayed::Refused {
-            number: 11,
-            place: 0,
-        };
+        return Err(Question::Odd.refused());
     }
-    judge(given, initial, goal, lengths, moves, &mut rows[LOADS])
+    Ok(judge(sheet, moves, &mut rows[LOADS]))
 }
 
-// The verdict of a list of pairs, for a problem already checked and the loads of its initial state, which follow the moves.
-pub fn judge(
-    given: Given,
-    initial: &[u16],
-    goal: &[u16],
-    lengths: &[u16],
-    moves: &[u16],
-    loads: &mut [u16],
-) -> Replayed
-    requires { Followable (sheet_of given initial.now goal.now lengths.now) initial.now moves.now loads.old }
-    ensures { Follows (sheet_of given initial.now goal.now lengths.now) moves.now result }
+// The verdict of a list of pairs, for a sheet already checked and the loads of its initial state, which follow the moves.
+pub fn judge(sheet: Sheet, moves: &[u16], loads: &mut [u16]) -> Verdict
+    requires { Followable (sheet_of sheet) sheet.initial.now moves.now loads.old }
+    ensures { Follows (sheet_of sheet.entry) moves.now result }
 {
-    let n = initial.len();
     let mut room = [0u16; MOST];
-    let cur = &mut room[..n];
-    lists::copy(initial, cur);
-    follow(given, cur, goal, lengths, moves, loads)
+    let cur = &mut room[..sheet.initial.len()];
+    cur.copy_from_slice(sheet.initial);
+    follow(sheet.lengths, cur, sheet.goal, moves, loads)
 }
 
 // The same from the current state on, which the moves change.
 fn follow(
-    given: Given,
+    lengths: Option<&[u16]>,
     cur: &mut [u16],
     goal: &[u16],
-    lengths: &[u16],
     moves: &[u16],
     loads: &mut [u16],
-) -> Replayed
-    requires { Followable (sheet_of given cur.old goal.now lengths.now) cur.old moves.now loads.old }
-    ensures { Follows (sheet_of given cur.old goal.now lengths.now) moves.now result }
+) -> Verdict
+    requires { Followable (measured_by (given_in lengths) cur.old goal.now) cur.old moves.now loads.old }
+    ensures { Follows (measured_by (given_in lengths.entry) cur.old goal.now) moves.now result }
 {
     let count = moves.len() / 2;
-    let mut k = 0;
-    while k < count {
-        let a = lists::wide(moves[2 * k]);
-        let x = lists::wide(moves[2 * k + 1]);
-        let verdict = lift_fault(given, cur, loads, lengths, a, x);
-        if verdict != 0 {
-            return Replayed::Judged {
-                verdict,
-                place: k + 1,
-            };
+    for k in 0..count {
+        let a = usize::from(moves[2 * k]);
+        let x = usize::from(moves[2 * k + 1]);
+        if let Err(fault) = check_lift(lengths, cur, loads, a, x) {
+            return Verdict::Bad { fault, lift: k + 1 };
         }
         problem::make_move(cur, loads, a, x);
-        k += 1;
     }
-    let p = problem::first_difference(cur, goal);
-    if p != 0 {
-        return Replayed::Judged {
-            verdict: 5,
-            place: p,
-        };
-    }
-    Replayed::Judged {
-        verdict: 0,
-        place: 0,
+    match problem::first_difference(cur, goal) {
+        Some(block) => Verdict::Elsewhere { block },
+        None => Verdict::Arrives,
     }
 }
 
-// What is wrong with a move of a to x, first by the tests of a move and then by the lengths; 0 where it is legal and fits.
-fn lift_fault(given: Given, cur: &[u16], loads: &[u16], lengths: &[u16], a: usize, x: usize) -> u16
-    requires { Loads cur.now loads.now × Counted (lengths_of given lengths.now) cur.now }
-    ensures { fault_of result ≡ first_no (lift_questions (lengths_of given lengths.now) cur.now a x) }
+// Whether a move of a to x is legal and fits, first by the tests of a move and then by the lengths.
+fn check_lift(
+    lengths: Option<&[u16]>,
+    cur: &[u16],
+    loads: &[u16],
+    a: usize,
+    x: usize,
+) -> Result<(), Fault>
+    requires { Loads cur.now loads.now × Counted (given_in lengths) cur.now }
+    ensures { fault_of result ≡ first_no (lift_questions (given_in lengths.entry) cur.now a x) }
 {
-    let bad = fault(cur, loads, a, x);
-    if bad != 0 {
-        return bad;
-    }
-    if !given.lengths {
-        return 0;
-    }
+    check_move(cur, loads, a, x)?;
+    let Some(lengths) = lengths else {
+        return Ok(());
+    };
     if lengths::too_long(lengths, a, x) {
-        6
-    } else {
-        0
+        return Err(Fault::TooLong);
     }
+    Ok(())
 }
 
-// What is wrong with a move of a to x, in the order of document 01's tests; 0 where it is legal.
-fn fault(cur: &[u16], loads: &[u16], a: usize, x: usize) -> u16
+// Whether a move of a to x is legal, in the order of document 01's tests.
+fn check_move(cur: &[u16], loads: &[u16], a: usize, x: usize) -> Result<(), Fault>
     requires { Loads cur.now loads.now }
     ensures { fault_of result ≡ first_no (move_questions cur.now a x) }
 {
     let n = cur.len();
     if a < 1 {
-        return 1;
+        return Err(Fault::Unknown);
     }
     if n < a {
-        return 1;
+        return Err(Fault::Unknown);
     }
     if n < x {
-        return 1;
+        return Err(Fault::Unknown);
     }
     if loads[a] != 0 {
-        return 2;
+        return Err(Fault::Covered);
     }
-    if x == lists::wide(cur[a - 1]) {
-        return 3;
+    if x == usize::from(cur[a - 1]) {
+        return Err(Fault::Idle);
     }
     if x == a {
-        return 4;
+        return Err(Fault::Taken);
     }
     if problem::taken(loads, x) {
-        return 4;
+        return Err(Fault::Taken);
     }
-    0
+    Ok(())
 }

@@ -6,23 +6,24 @@ use Rattle.lengths.proofs.measure.Goals as goal
 pub returns-then-lengths-initial : goal.returns-then-lengths-initial
 returns-then-lengths-initial c = search (rules, count_way)
 
-pub first_overhang-p-requires : goal.first_overhang-p-requires
-first_overhang-p-requires c = search (rules, initial_measurable)
+pub first_overhang-requires : goal.first_overhang-requires
+first_overhang-requires c = search (rules, initial_measurable)
 
-pub overflow_cast-result : goal.overflow_cast-result
-overflow_cast-result c = search (rules, overhang_fits, initial_measurable)
+pub first_overhang-requires-2 : goal.first_overhang-requires-2
+first_overhang-requires-2 c = search (rules, goal_measurable)
 
-pub returns-then-p-ne0 : goal.returns-then-p-ne0
-returns-then-p-ne0 c = search (rules, initial_way)
+pub overflow_cast-block : goal.overflow_cast-block
+overflow_cast-block c = overhang_fits (initial_measurable c.requires (search rules)) c.in-Some.ensures
 
-pub first_overhang-p-requires-2 : goal.first_overhang-p-requires-2
-first_overhang-p-requires-2 c = search (rules, goal_measurable)
+pub returns-in-Some : goal.returns-in-Some
+returns-in-Some c = initial_way _ _ _ (search rules) c.refused_at.ensures c.in-Some.ensures
 
-pub overflow_cast-result-then-p-ne0-2 : goal.overflow_cast-result-then-p-ne0-2
-overflow_cast-result-then-p-ne0-2 c = search (rules, overhang_fits, goal_measurable)
+pub overflow_cast-block-in-Some-first_overhang : goal.overflow_cast-block-in-Some-first_overhang
+overflow_cast-block-in-Some-first_overhang c = overhang_fits (goal_measurable c.requires (search rules)) c.in-Some-first_overhang.ensures
 
-pub returns-then-p-ne0-2 : goal.returns-then-p-ne0-2
-returns-then-p-ne0-2 c = search (rules, goal_way)
+pub returns-in-Some-first_overhang : goal.returns-in-Some-first_overhang
+returns-in-Some-first_overhang c =
+    goal_way _ _ _ (search rules) c.in_default.ensures c.refused_at-in-Some-first_overhang.ensures c.in-Some-first_overhang.ensures
 
 pub returns : goal.returns
-returns c = search (rules, level_way)
+returns c = level_way _ _ _ (search rules) c.in_default.ensures c.in_default-first_overhang.ensures

@@ -1,22 +1,25 @@
 -- Every way out answers what the questions come to; the states are surveyed one after the other. Assumes nothing.
 use borrow.Author.Rules.{rules}
-use Rattle.problem.proofs.CheckLaws.{long_way, uneven_way, initial_surveyable, goal_surveyable, goal_way, initial_way}
+use Rattle.problem.proofs.CheckLaws.{sound_turned, long_way, uneven_way, initial_surveyable, goal_surveyable, initial_turned, goal_turned}
+use Rattle.std.proofs.lemmas.Result.{err_from_is_err_and}
 use Rattle.problem.proofs.examine.Goals as goal
 
-pub returns-then-n-gt-MOST : goal.returns-then-n-gt-MOST
-returns-then-n-gt-MOST c = search (rules, long_way)
+pub returns-then-initial-gt-MOST : goal.returns-then-initial-gt-MOST
+returns-then-initial-gt-MOST c = search (rules, long_way)
 
-pub returns-then-goal-n : goal.returns-then-goal-n
-returns-then-goal-n c = search (rules, uneven_way)
-
-pub survey-fault-requires : goal.survey-fault-requires
-survey-fault-requires c = search (rules, initial_surveyable)
+pub returns-then-goal-initial : goal.returns-then-goal-initial
+returns-then-goal-initial c = search (rules, uneven_way)
 
 pub survey-requires : goal.survey-requires
-survey-requires c = search (rules, goal_surveyable)
+survey-requires c = search (rules, initial_surveyable)
 
-pub returns-in-Sound : goal.returns-in-Sound
-returns-in-Sound c = search (rules, goal_way)
+pub returns-in_err-map_err : goal.returns-in_err-map_err
+returns-in_err-map_err c =
+    let p = err_from_is_err_and c.from_residual.result c.from_residual.ensures.1 in
+    rw (p.1, p.2) (initial_turned (search rules) (search rules) _ _ c.survey.ensures c.map_err.ensures.cases c.in_err-map_err.was (λ x q k. search rules))
+
+pub survey-requires-2 : goal.survey-requires-2
+survey-requires-2 c = search (rules, goal_surveyable)
 
 pub returns : goal.returns
-returns c = initial_way (search rules) (search rules) c.survey-fault.ensures c.in_default.not-Sound c.answer-2.ensures
+returns c = goal_turned (search rules) (search rules) _ _ (sound_turned _ c.survey.ensures c.in_ok-map_err.ensures.variant) c.survey-2.ensures c.map_err-2.ensures.cases (λ x q k. search rules)

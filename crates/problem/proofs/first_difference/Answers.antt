@@ -1,16 +1,15 @@
 use borrow.Author.Rules.{rules}
-use Rattle.lists.proofs.ScanLaws.{sweep_none}
-use Rattle.problem.proofs.CountLaws.{compared_begin, compared_next, compared_found, compared_all}
+use Rattle.problem.proofs.CountLaws.{swept_none, compared_begin, compared_next, compared_found, compared_all}
 use Rattle.problem.proofs.first_difference.Goals as goal
 
 pub returns-then-not-any_difference : goal.returns-then-not-any_difference
-returns-then-not-any_difference c = search (rules, sweep_none)
+returns-then-not-any_difference c = search (rules, swept_none)
 
 pub loop-i-init : goal.loop-i-init
 loop-i-init c = search (rules, compared_begin)
 
-pub returns-then-s-i : goal.returns-then-s-i
-returns-then-s-i c = search (rules, compared_found)
+pub returns-then-x-goal : goal.returns-then-x-goal
+returns-then-x-goal c = search (rules, compared_found)
 
 pub loop-i-preserved : goal.loop-i-preserved
 loop-i-preserved c = search (rules, compared_next)

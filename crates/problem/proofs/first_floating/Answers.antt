@@ -1,10 +1,9 @@
 use borrow.Author.Rules.{rules}
-use Rattle.lists.proofs.ScanLaws.{sweep_none}
-use Rattle.problem.proofs.CountLaws.{reached_begin, reached_next, reached_found, reached_all}
+use Rattle.problem.proofs.CountLaws.{swept_none, reached_begin, reached_next, reached_found, reached_all}
 use Rattle.problem.proofs.first_floating.Goals as goal
 
 pub returns-then-not-any_floating : goal.returns-then-not-any_floating
-returns-then-not-any_floating c = search (rules, sweep_none)
+returns-then-not-any_floating c = search (rules, swept_none)
 
 pub loop-i-init : goal.loop-i-init
 loop-i-init c = search (rules, reached_begin)

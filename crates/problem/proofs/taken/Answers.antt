@@ -3,8 +3,8 @@ use Rattle.problem.proofs.FillLaws.{table_free, block_taken}
 use borrow.Author.Rules.{rules}
 use Rattle.problem.proofs.taken.Goals as goal
 
-pub returns-then-x-eq0 : goal.returns-then-x-eq0
-returns-then-x-eq0 c = search (rules, table_free)
+pub returns-else-x-ne0 : goal.returns-else-x-ne0
+returns-else-x-ne0 c = search (rules, table_free)
 
-pub returns : goal.returns
-returns c = search (rules, block_taken)
+pub returns-then-x-ne0 : goal.returns-then-x-ne0
+returns-then-x-ne0 c = search (rules, block_taken)

@@ -1,9 +1,6 @@
 use borrow.Author.Rules.{rules}
-use Rattle.towers.proofs.WalkLaws.{sink_begin, sink_next, sink_less, sink_end}
+use Rattle.towers.proofs.WalkLaws.{sink_next, sink_less, sink_end}
 use Rattle.towers.proofs.bottom_of.Goals as goal
-
-pub loop-b-init : goal.loop-b-init
-loop-b-init c = search (rules, sink_begin)
 
 pub returns-then-x-eq0 : goal.returns-then-x-eq0
 returns-then-x-eq0 c = search (rules, sink_end)

@@ -14,7 +14,7 @@ pub bounds-yard-b : goal.bounds-yard-b
 bounds-yard-b c = search (rules, asked_in)
 
 pub in_the_way-by-requires : goal.in_the_way-by-requires
-in_the_way-by-requires c = (search rules, search (rules, above_is, high_in))
+in_the_way-by-requires c = search (rules, above_is, high_in)
 
 pub offset_bounds-yard-by : goal.offset_bounds-yard-by
 offset_bounds-yard-by c = search (rules, scaled, above_is, way_in)
@@ -22,11 +22,8 @@ offset_bounds-yard-by c = search (rules, scaled, above_is, way_in)
 pub bounds-yard-by : goal.bounds-yard-by
 bounds-yard-by c = search (rules, above_is, way_in)
 
-pub offset_bounds-yard-wide : goal.offset_bounds-yard-wide
-offset_bounds-yard-wide c = search (rules, scaled, above_is, bottom_in_lem)
-
-pub bounds-yard-wide : goal.bounds-yard-wide
-bounds-yard-wide c = search (rules, above_is, bottom_in_lem)
+pub bounds-yard-from : goal.bounds-yard-from
+bounds-yard-from c = search (rules, above_is, bottom_in_lem)
 
 pub returns : goal.returns
 returns c = λ s g w m. record { above = search (rules, above_is); by = search (rules, above_is, way_is w m); next = search (rules, above_is, next_is w m) }

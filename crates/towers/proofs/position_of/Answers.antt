@@ -1,23 +1,10 @@
 -- `position_of` meets its contract: a law for each of its two answers. Assumes nothing.
 use borrow.Author.Rules.{rules}
-use Rattle.rows.proofs.RowLaws.{scaled}
-use Rattle.towers.proofs.FindLaws.{ask_in, right_way, wrong_way, ask_root}
+use Rattle.towers.proofs.FindLaws.{right_way, wrong_way, ask_root}
 use Rattle.towers.proofs.position_of.Goals as goal
-
-pub in_position-requires : goal.in_position-requires
-in_position-requires c = search (rules, ask_in)
 
 pub returns-then-in_position : goal.returns-then-in_position
 returns-then-in_position c = λ s g w h. search (rules, right_way w h)
-
-pub offset_bounds-yard-b : goal.offset_bounds-yard-b
-offset_bounds-yard-b c = search (rules, scaled, ask_in)
-
-pub bounds-yard-b : goal.bounds-yard-b
-bounds-yard-b c = search (rules, ask_in)
-
-pub offset_bounds-yard-r : goal.offset_bounds-yard-r
-offset_bounds-yard-r c = search (rules, scaled, ask_root)
 
 pub bounds-yard-r : goal.bounds-yard-r
 bounds-yard-r c = search (rules, ask_root)

@@ -1,13 +1,7 @@
 -- `shift` meets its contract: the three stores make the rows of the state after the move. Assumes nothing.
 use borrow.Author.Rules.{rules}
-use Rattle.towers.proofs.ShiftLaws.{old_in, old_fits, left_within, left_scaled, joined_within, joined_scaled, joined_fits, shifted_rows}
+use Rattle.towers.proofs.ShiftLaws.{left_within, left_scaled, joined_within, joined_scaled, joined_fits, shifted_rows}
 use Rattle.towers.proofs.shift.Goals as goal
-
-pub entry_or-left-requires : goal.entry_or-left-requires
-entry_or-left-requires c = search (rules, old_in)
-
-pub overflow_cast-yard : goal.overflow_cast-yard
-overflow_cast-yard c = search (rules, old_fits)
 
 pub offset_bounds-yard-left : goal.offset_bounds-yard-left
 offset_bounds-yard-left c = search (rules, left_scaled)

@@ -11,22 +11,21 @@ bounds-moves-k c = search (rules, first_within)
 pub bounds-moves-k-in-loop-k : goal.bounds-moves-k-in-loop-k
 bounds-moves-k-in-loop-k c = search (rules, pair_within)
 
-pub returns-then-verdict-ne0 : goal.returns-then-verdict-ne0
-returns-then-verdict-ne0 c = search (rules, bad_way c.loop-k.invariant.0)
+pub returns-in-Err : goal.returns-in-Err
+returns-in-Err c = bad_way c.loop-k.invariant.0 (search rules) c.from-a.ensures c.from-x.ensures c.in-Err.ensures
 
 pub make_move-requires : goal.make_move-requires
-make_move-requires c = search (rules, movable c.loop-k.invariant.0)
+make_move-requires c = movable c.loop-k.invariant.0 (search rules) c.from-a.ensures c.from-x.ensures c.in_default.ensures
 
 pub loop-k-preserved : goal.loop-k-preserved
-loop-k-preserved c =
-    let w = c.loop-k.invariant.0 in (
-      next w c.loop-k-test.true c.wide-a.ensures c.wide-x.ensures c.lift_fault-verdict.ensures c.if-verdict-ne0.false c.make_move.ensures,
-      search rules,
-      search rules,
-    )
+loop-k-preserved c = (
+  next c.loop-k.invariant.0 (search rules) c.from-a.ensures c.from-x.ensures c.in_default.ensures c.make_move.ensures,
+  search rules,
+  search rules,
+)
 
-pub returns-then-p-ne0 : goal.returns-then-p-ne0
-returns-then-p-ne0 c = search (rules, differs_way)
+pub returns-in-Some : goal.returns-in-Some
+returns-in-Some c = differs_way c.loop-k.invariant.0 (search rules) c.in-Some.ensures
 
-pub returns : goal.returns
-returns c = search (rules, arrives_way)
+pub returns-in-None : goal.returns-in-None
+returns-in-None c = arrives_way c.loop-k.invariant.0 (search rules) c.in-None.ensures

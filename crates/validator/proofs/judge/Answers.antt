@@ -7,8 +7,8 @@ use Rattle.validator.proofs.judge.Goals as goal
 pub slice_bounds-cur-end : goal.slice_bounds-cur-end
 slice_bounds-cur-end c = search (rules, length-take-le)
 
-pub copy-requires : goal.copy-requires
-copy-requires c = search (rules, length-take-le)
+pub copy_from_slice-requires : goal.copy_from_slice-requires
+copy_from_slice-requires c = search (rules, length-take-le)
 
 pub follow-requires : goal.follow-requires
 follow-requires c = search (rules, copied)
