@@ -1,6 +1,7 @@
 -- The loop of a stalled state, written as rows of three numbers; and what is lent to the test. What a run keeps are the rows of the yard. Assumes nothing.
-use Rattle.std.specs.Prelude.{ℕ, ◌+◌, ◌*◌, ◌≤◌, ◌≡◌, cond, List, [], eqb, length, set}
+use Rattle.std.specs.Prelude.{ℕ, ◌+◌, ◌*◌, ◌≤◌, ◌≡◌, cond, Option, List, [], eqb, length, set}
 use Rattle.lists.specs.Lists.{overwrite}
+use Rattle.lists.specs.Search.{nonzero}
 use Rattle.rows.specs.Rows.{Yard, Sized}
 use Rattle.blocks.specs.State.{State}
 use Rattle.blocks.specs.Position.{Bounded}
@@ -50,9 +51,9 @@ pub record Lookable (y z : Yard) (out : List ℕ) : Type 0 where
   pub looks : Looks state goal y z
   pub room : shown_width * length state ≤ length out
 
--- Its loop is written from the front, and its length is answered.
-pub record Looked (s g : State) (out : List ℕ) (r : ℕ) (out' : List ℕ) : Type 0 where
-  pub count : r ≡ length (loop_of s g)
+-- Its loop is written from the front, and its length is answered; none where it is empty.
+pub record Looked (s g : State) (out : List ℕ) (r : Option ℕ) (out' : List ℕ) : Type 0 where
+  pub count : r ≡ nonzero (length (loop_of s g))
   pub written : out' ≡ overwrite (blocked_rows s g (loop_of s g)) out
 
 -- A problem that has been checked, with the yard as the check left it, and space for a row of each block.
@@ -63,7 +64,7 @@ pub record Seekable (s g : State) (y : Yard) (out : List ℕ) : Type 0 where
   pub visits : Unvisited y
   pub room : shown_width * length s ≤ length out
 
--- The deadlock of the start is written from the front, and its length is answered.
-pub record Sought (s g : State) (out : List ℕ) (r : ℕ) (out' : List ℕ) : Type 0 where
-  pub count : r ≡ length (deadlock_loop s g)
+-- The deadlock of the start is written from the front, and its length is answered; none where nothing is deadlocked.
+pub record Sought (s g : State) (out : List ℕ) (r : Option ℕ) (out' : List ℕ) : Type 0 where
+  pub count : r ≡ nonzero (length (deadlock_loop s g))
   pub written : out' ≡ overwrite (deadlock_rows s g) out

@@ -8,97 +8,59 @@ ghost use Rattle.blocks.specs.Loop.{loop, onward, blocked_rows, shown_width};
 ghost use Rattle.lengths.specs.Checks.{sheet_of};
 ghost use Rattle.lists.specs.Lists.{overwrite};
 ghost use Rattle.deadlocks.specs.Looks.{row_at, Shows, Showable, Looks, Lookable, Looked, Seekable, Sought};
-ghost use Rattle.deadlocks.specs.Answers.{TestsDeadlock, Finds};
+ghost use Rattle.deadlocks.specs.Answers.{TestsDeadlock};
 
-use lengths::Given;
-use numberset::WORDS;
-use problem::Checked;
+use lengths::Sheet;
+use refusals::{Question, Refusal};
 use rows::{MOST, ROW, ROWS, SEEN, Yard};
-use statuses::{LOOSE, Mode, Sets};
+use statuses::{Mode, Sets};
 
 // How many numbers are written for a block.
 pub const WIDTH: usize = 3;
 
-// The answer to the deadlock test: the number and place of the first "no", or that nothing is deadlocked at the start, or how many blocks the rows show.
-#[derive(Drop)]
-pub enum Tested {
-    Refused { number: u16, place: u16 },
-    Free,
-    Deadlocked { count: usize },
-}
-
 // The questions of a sheet and 10, and then whether blocks are deadlocked at the start; where some are, they are written as rows from the front of the lent
-// space.
-pub fn deadlock(
-    given: Given,
-    initial: &[u16],
-    goal: &[u16],
-    lengths: &[u16],
-    out: &mut [u16],
-) -> Tested
-    ensures { TestsDeadlock (sheet_of given initial.now goal.now lengths.now) out.old result out.new }
+// space, and the answer is how many they are.
+pub fn deadlock(sheet: Sheet, out: &mut [u16]) -> Result<Option<usize>, Refusal>
+    ensures { TestsDeadlock (sheet_of sheet.entry) out.old result out.new }
 {
     let mut yard = [[0u16; ROW]; ROWS];
-    let checked = lengths::examine(given, initial, goal, lengths, &mut yard);
-    if let Checked::Refused { number, place } = checked {
-        return Tested::Refused { number, place };
+    lengths::examine(sheet, &mut yard)?;
+    if out.len() < WIDTH * sheet.initial.len() {
+        return Err(Question::Space.refused());
     }
-    if out.len() < WIDTH * initial.len() {
-        return Tested::Refused {
-            number: 10,
-            place: 0,
-        };
-    }
-    test(initial, goal, &mut yard, out)
+    Ok(test(sheet.initial, sheet.goal, &mut yard, out))
 }
 
-// The test of a problem that has been checked, with the yard as the check left it, and space for a row of each block.
-pub fn test(initial: &[u16], goal: &[u16], yard: &mut Yard, out: &mut [u16]) -> Tested
-    requires { Seekable initial.now goal.now yard.old out.old }
-    ensures { Finds initial.now goal.now out.old result out.new }
-{
-    let count = seek(initial, goal, yard, out);
-    if count == 0 {
-        return Tested::Free;
-    }
-    Tested::Deadlocked { count }
-}
-
-// Constructive moves on a copy of the state until none is left, and a look at what is then misplaced; answers how many blocks are written.
+// The test of a problem that has been checked, with the yard as the check left it, and space for a row of each block: constructive moves on a copy of the
+// state until none is left, and a look at what is then misplaced; answers how many blocks are written.
 // The moves need no towers; these are filled once, for the look. Nothing ready and nothing perched: nothing is misplaced.
-fn seek(initial: &[u16], goal: &[u16], yard: &mut Yard, out: &mut [u16]) -> usize
+pub fn test(initial: &[u16], goal: &[u16], yard: &mut Yard, out: &mut [u16]) -> Option<usize>
     requires { Seekable initial.now goal.now yard.old out.old }
     ensures { Sought initial.now goal.now out.old result out.new }
 {
-    let n = initial.len();
     let mut room = [0u16; MOST];
-    let cur = &mut room[..n];
-    let mut sets = [[0u64; WORDS]; 2];
+    let cur = &mut room[..initial.len()];
+    let mut sets = Sets::new();
     let mut moves = [0u16; 4 * MOST];
     statuses::begin(Mode::Building, initial, goal, cur, yard, &mut sets);
     runs::run(Mode::Building, cur, goal, yard, &mut sets, &mut moves, 0);
-    if numberset::lowest(&sets[LOOSE]) == 0 {
-        return 0;
-    }
+    sets.loose.lowest()?;
     statuses::fit(Mode::Gn2, cur, goal, yard, &mut sets);
     look(yard, &sets, out)
 }
 
-// Writes the loop of a state in which no block is ready, from its lowest block onward; answers how many blocks it has, 0 where nothing is misplaced.
+// Writes the loop of a state in which no block is ready, from its lowest block onward; answers how many blocks it has, none where nothing is misplaced.
 // The test calls it only where something is perched; it does not rely on that.
-fn look(yard: &mut Yard, sets: &Sets, out: &mut [u16]) -> usize
+fn look(yard: &mut Yard, sets: &Sets, out: &mut [u16]) -> Option<usize>
     requires { Lookable yard.old sets.now out.old }
     ensures { (s g : State) → Looks s g yard.old sets.now → Looked s g out.old result out.new }
 {
-    let start = numberset::lowest(&sets[LOOSE]);
-    if start == 0 {
-        return 0;
-    }
+    let start = sets.loose.lowest()?;
     let span = choices::walk(yard, start);
     let count = span.to - span.from;
-    let low = choices::lowest_in(&yard[SEEN], span);
+    let low = choices::lowest_in(&yard[SEEN][span.from..span.to]);
     show(yard, out, low, count);
-    count
+    Some(count)
 }
 
 // Writes the loop from its lowest block on, a row for each block: it, the block through which its successor is in its way, and where the good part of its goal
@@ -108,12 +70,10 @@ fn show(yard: &Yard, out: &mut [u16], low: usize, count: usize)
     ensures { (s g : State) → Shows s g yard.now low count → out.new ≡ overwrite (blocked_rows s g (onward s (loop s g))) out.old }
 {
     let mut b = low;
-    let mut i = 0;
-    while i < count {
+    for i in 0..count {
         let found = towers::find(yard, b);
         write_row(out, i, b, found.by, found.above);
         b = found.next;
-        i += 1;
     }
 }
 

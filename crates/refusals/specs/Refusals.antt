@@ -3,7 +3,7 @@
 use Rattle.std.specs.Prelude.{ℕ, Result, Ok, Err}
 use Rattle.blocks.specs.Question.{Asked, all_yes, no'}
 use Rattle.refusals.specs.declared.Question.{Question}
-use Rattle.refusals.specs.declared.Question.TheVariants.{Method, TooMany, Unequal, NowEntry, NowShared, NowFloating, GoalEntry, GoalShared, GoalFloating, Space, Odd, Record, TrainingSize, TrainingNumber, LengthsCount, NowOverhang, GoalOverhang, Panel}
+use Rattle.refusals.specs.declared.Question.TheVariants.{Method, TooMany, Unequal, NowEntry, NowShared, NowFloating, GoalEntry, GoalShared, GoalFloating, Space, Odd, Record, Stall, TrainingSize, TrainingNumber, LengthsCount, NowOverhang, GoalOverhang, Panel}
 use Rattle.refusals.specs.declared.Refusal.{Refusal}
 
 abbrev pub number_of : Question → ℕ
@@ -19,6 +19,7 @@ number_of GoalFloating = 9
 number_of Space = 10
 number_of Odd = 11
 number_of Record = 12
+number_of Stall = 13
 number_of TrainingSize = 14
 number_of TrainingNumber = 15
 number_of LengthsCount = 16

@@ -5,7 +5,7 @@
 ghost use Rattle.std.specs.Prelude.{◌≡◌};
 ghost use Rattle.refusals.specs.Refusals.{number_of};
 
-// A question that can be answered no, by what a "no" finds. 13, for which no case is found, has no name here: no code gives it.
+// A question, by what a "no" to it finds. No code gives `Stall`: a stalled yard always has a slab to put down (`never_13` of `blocks`).
 #[derive(Clone, Copy, Debug, PartialEq, Eq)]
 pub enum Question {
     Method = 1,
@@ -20,6 +20,7 @@ pub enum Question {
     Space = 10,
     Odd = 11,
     Record = 12,
+    Stall = 13,
     TrainingSize = 14,
     TrainingNumber = 15,
     LengthsCount = 16,
