@@ -3,6 +3,7 @@ use Prim.Native.Nat.{ℕ, ◌*◌, ◌≤◌}
 use mathlib.Core.Path.{◌≡◌, refl}
 use mathlib.Core.Bool.{Bool}
 use mathlib.Core.List.{List, [], ◌∷◌}
+use Rattle.std.specs.Prelude.{Option, Some, None}
 use native.Mathlib.Omega.{arith}
 use lib.ListN.{length, length-append}
 use Rattle.blocks.specs.State.{most}
@@ -14,7 +15,6 @@ use Rattle.records.specs.Records.{record_bytes}
 use Rattle.records.specs.declared.Kind.TheVariants.{Pl, No}
 use Rattle.records.proofs.WriteLaws.{length_record}
 use Rattle.sheets.specs.declared.Head.{Head}
-use Rattle.sheets.specs.declared.Head.TheVariants.{Missing, There}
 use Rattle.sheets.specs.Sheets.{head_at}
 use Rattle.responder.specs.Responses.{sheet_in, lent, program_questions, refusal_bytes, move_bytes, plan_bytes, plan_records, reply, sheet_response}
 use Rattle.responder.specs.Responses.{response_by, response_to}
@@ -53,6 +53,6 @@ pub answer_bound : Fits
 unfolding response_to
 answer_bound bytes = by (head_at bytes 0)
   where
-    by : (h : Head) → length (response_by h bytes) ≤ longest
-    by (There t n m) = sheet_fits t n m bytes
-    by Missing = refusal_fits 12 0
+    by : (o : Option Head) → length (response_by o bytes) ≤ longest
+    by (Some h) = sheet_fits h.measured h.n h.method bytes
+    by None = refusal_fits 12 0

@@ -5,82 +5,83 @@ use mathlib.Core.Logic.{◌⊎◌, inl, inr, ◌≢◌}
 use mathlib.Core.Bool.{Bool, cond}
 use mathlib.Core.List.{List, [], ◌∷◌, ◌++◌}
 use mathlib.Core.Option.{none}
+use Rattle.std.specs.Prelude.{None, Ok, Err}
 use native.Mathlib.Omega.{arith}
-use lib.ListN.{length, length-replicate}
+use lib.ListN.{length, take, length-replicate}
 use Rattle.blocks.specs.State.{most}
 use Rattle.blocks.specs.Question.{no', first_no, AllYes, FirstNo, IsMethod, asks_method, asks_size}
-use Rattle.blocks.specs.Sheet.{Sheet, office, sheet_questions, plan_questions}
+use Rattle.blocks.specs.Length.{given}
+use Rattle.blocks.specs.Sheet.{Sheet, measured_by, office, sheet_questions, plan_questions}
 use Rattle.blocks.proofs.SheetLaws.{late}
 use Rattle.lists.proofs.ReflectLaws.{Reflects, holds, fails, same?}
 use Rattle.records.specs.There.{AllThere}
 use Rattle.records.specs.declared.Kind.TheVariants.{Nw, Gl, Ln}
 use Rattle.records.proofs.ThereLaws.{all_there, first_missing}
-use Rattle.sheets.specs.declared.Head.TheVariants.{Missing, There}
-use Rattle.sheets.specs.declared.Sheet as case
-use Rattle.sheets.specs.declared.Sheet.TheVariants.{Headless, Long, Broken, Whole}
-use Rattle.sheets.specs.Sheets.{head_at, length_count, nows_at, goals_at, lengths_at, end_at, nows, goals}
+use Rattle.sheets.specs.declared.Whole.{Whole}
+use Rattle.sheets.specs.declared.Unread.{Unread}
+use Rattle.sheets.specs.declared.Unread.TheVariants.{Headless, Long, Broken}
+use Rattle.sheets.specs.declared.Entries.{Entries}
+use Rattle.sheets.specs.Sheets.{there, head_at, length_count, nows_at, goals_at, lengths_at, end_at, nows, goals}
 use Rattle.sheets.specs.Reads.{ReadsSheet}
 use Rattle.sheets.specs.Cases.{IsLong, RecordMissing, IsBroken, IsWhole}
 use Rattle.sheets.proofs.HeadLaws.{head_room}
 use Rattle.sheets.proofs.SheetLaws as read
-use Rattle.planner.specs.Answers.{Plans}
+use Rattle.refusals.specs.Refusals.{number_of}
+use Rattle.refusals.specs.declared.Refusal.{Refusal}
+use Rattle.planner.specs.Answers.{Answer, Plans}
 use Rattle.planner.specs.declared.Planned.{Planned}
-use Rattle.planner.specs.declared.Planned.TheVariants.{Refused, Made}
 use Rattle.responder.specs.Responses.{asks_nows, asks_goals, asks_length_records, asks_tail, record_questions, sheet_in, lent, program_questions}
 use Rattle.responder.specs.Responses.{refusal_bytes, plan_records, reply, sheet_response, response_by, response_to}
-use Rattle.responder.specs.Answers.{refused_as, Askable, AsksBy, Asks, reply_of, Writable}
+use Rattle.responder.specs.Answers.{no_method, too_many, no_record, refused_as, refusal_of, reply_of, Writable, Answered}
 use Rattle.responder.proofs.BehindLaws.{once, without_yes, without_room}
 use Rattle.responder.proofs.DecidedLaws.{end_room, method_reflects, middle, middle_decides, sheet_refuses}
 use Rattle.responder.proofs.PlannedLaws.{made_yes, made_records, made_writable}
 
--- The records of an answer are the definition's, and they can be written.
-pub record Answered (bytes : List ℕ) (r : Planned) (space' : List ℕ) : Type 0 where
-  pub same : reply_of r space' ≡ response_to bytes
-  pub writable : Writable r space'
-
 -- ---- a "no"
 
-refusal : {bytes : List ℕ} {k p : ℕ} (space : List ℕ) → refusal_bytes k p ≡ response_to bytes → Answered bytes (Refused k p) space
-refusal space e = record { same = e; writable = record { counts = λ c d f. let z : ◌≡◌ {A = ℕ} 0 1 = cc in absurd (omega arith) } }
+refusal : {bytes : List ℕ} (q : Refusal) (space : List ℕ) → refusal_bytes (number_of q.question) q.place ≡ response_to bytes → Answered bytes (Err q) space
+refusal q space e = record { same = e; writable = record { counts = λ p f. absurd cc } }
 
-pub headless_way : {bytes : List ℕ} (space : List ℕ) {r : Planned} → head_at bytes 0 ≡ Missing → r ≡ Refused 12 0 → Answered bytes r space
+pub headless_way : {bytes : List ℕ} (space : List ℕ) {r : Answer} → head_at bytes 0 ≡ None → r ≡ Err (no_record 0) → Answered bytes r space
 unfolding response_to
-headless_way {bytes} space {r} head e = subst (λ a. Answered bytes a space) (sym e) (refusal space (sym (ap (λ h. response_by h bytes) head)))
+headless_way {bytes} space {r} head e =
+    subst (λ a. Answered bytes a space) (sym e) (refusal (no_record 0) space (sym (ap (λ h. response_by h bytes) head)))
 
-module _ (bytes : List ℕ) {t : Bool} {n m : ℕ} (head : head_at bytes 0 ≡ There t n m) (space : List ℕ) where
+module _ (bytes : List ℕ) {t : Bool} {n m : ℕ} (head : head_at bytes 0 ≡ there t n m) (space : List ℕ) where
   pub responds : sheet_response t n m bytes ≡ response_to bytes
   unfolding response_to
   responds = sym (ap (λ h. response_by h bytes) head)
 
-  asked_no : {k p : ℕ} → first_no (program_questions t n m bytes) ≡ no' k p → Answered bytes (Refused k p) space
+  asked_no : (q : Refusal) → first_no (program_questions t n m bytes) ≡ no' (number_of q.question) q.place → Answered bytes (Err q) space
   unfolding sheet_response
-  asked_no e = refusal space (sym (ap (λ a. reply a (plan_records m (sheet_in t n bytes) (lent n))) e) ∙ responds)
+  asked_no q e = refusal q space (sym (ap (λ a. reply a (plan_records m (sheet_in t n bytes) (lent n))) e) ∙ responds)
 
-  no_way : {k p : ℕ} → FirstNo (program_questions t n m bytes) k p → Answered bytes (Refused k p) space
-  no_way {k} {p} f = asked_no ((sheet_refuses t n m bytes k p).1 f)
+  no_way : (q : Refusal) → FirstNo (program_questions t n m bytes) (number_of q.question) q.place → Answered bytes (Err q) space
+  no_way q f = asked_no q ((sheet_refuses t n m bytes (number_of q.question) q.place).1 f)
 
   -- question 1
-  pub unnamed_way : ¬ IsMethod m → Answered bytes (Refused 1 0) space
+  pub unnamed_way : ¬ IsMethod m → Answered bytes (Err no_method) space
   unfolding program_questions asks_method
-  unnamed_way i = no_way (inl (refl, (refl, i)))
+  unnamed_way i = no_way no_method (inl (refl, (refl, i)))
 
   -- question 1 before it
-  behind_way : (k p : ℕ) {r : Planned} → (IsMethod m → FirstNo (program_questions t n m bytes) k p) → r ≡ refused_as m k p → Answered bytes r space
+  behind_way : (q : Refusal) {r : Answer} → (IsMethod m → FirstNo (program_questions t n m bytes) (number_of q.question) q.place) → r ≡ Err (refused_as m q)
+      → Answered bytes r space
   unfolding program_questions asks_method
-  behind_way k p f e = subst (λ a. Answered bytes a space) (sym e) (by (method_reflects m))
+  behind_way q f e = subst (λ a. Answered bytes a space) (sym e) (by (method_reflects m))
     where
-      by : {u : Bool} → Reflects (IsMethod m) u → Answered bytes (cond u (Refused k p) (Refused 1 0)) space
-      by (holds i) = no_way (f i)
+      by : {u : Bool} → Reflects (IsMethod m) u → Answered bytes (Err (cond u q no_method)) space
+      by (holds i) = no_way q (f i)
       by (fails i) = unnamed_way i
 
-module _ {bytes : List ℕ} {m : ℕ} {r : Planned} (space : List ℕ) where
-  pub long_way : IsLong bytes 0 m → r ≡ refused_as m 2 0 → Answered bytes r space
+module _ {bytes : List ℕ} {m : ℕ} {r : Answer} (space : List ℕ) where
+  pub long_way : IsLong bytes 0 m → r ≡ Err (refused_as m too_many) → Answered bytes r space
   unfolding program_questions asks_method asks_size
-  long_way w = behind_way bytes w.head space 2 0 (λ i. inr (i, inl (refl, (refl, λ l. omega (arith, w.long)))))
+  long_way w = behind_way bytes w.head space too_many (λ i. inr (i, inl (refl, (refl, λ l. omega (arith, w.long)))))
 
-  pub broken_way : {p : ℕ} → IsBroken bytes 0 m p → r ≡ refused_as m 12 p → Answered bytes r space
+  pub broken_way : {p : ℕ} → IsBroken bytes 0 m p → r ≡ Err (refused_as m (no_record p)) → Answered bytes r space
   unfolding program_questions asks_method asks_size asks_nows asks_goals asks_length_records
-  broken_way {p} w = behind_way bytes w.head space 12 p (λ i. inr (i, inr (w.small, by w.missing)))
+  broken_way {p} w = behind_way bytes w.head space (no_record p) (λ i. inr (i, inr (w.small, by w.missing)))
     where
       t : Bool
       t = w.measured
@@ -123,10 +124,10 @@ module _ {bytes : List ℕ} {n m : ℕ} {t : Bool} {e : ℕ} (w : IsWhole bytes 
   pub whole_room : end_at 0 n k ≤ length bytes
   whole_room = end_room n k bytes (head_room bytes 0 w.head) nows_yes goals_yes lengths_yes
 
-  pub tail_way : (space : List ℕ) {r : Planned} → length bytes ≢ e → r ≡ refused_as m 12 (2 * n + k + 1) → Answered bytes r space
+  pub tail_way : (space : List ℕ) {r : Answer} → length bytes ≢ e → r ≡ Err (refused_as m (no_record (2 * n + k + 1))) → Answered bytes r space
   unfolding program_questions asks_method asks_size asks_nows asks_goals asks_length_records asks_tail
   tail_way space ne =
-      behind_way bytes w.head space 12 (2 * n + k + 1)
+      behind_way bytes w.head space (no_record (2 * n + k + 1))
       (λ i. inr (i, inr (w.small, inr (nows_yes, inr (goals_yes, inr (lengths_yes, inl (refl, (refl, omega (arith, ne, w.end, whole_room)))))))))
 
   module _ (exact : length bytes ≡ e) (space : List ℕ) (room : 4 * most ≤ length space) where
@@ -144,41 +145,36 @@ module _ {bytes : List ℕ} {n m : ℕ} {t : Bool} {e : ℕ} (w : IsWhole bytes 
         without_room m h (lent n) (omega (arith, length-replicate {A = ℕ} (4 * n) 0, w.nows_there_lem))
         ∙ sym (without_room m h space (omega (arith, room, w.nows_there_lem, w.small)))
 
-    plan_way : (r : Planned) {space' : List ℕ} → Plans (office m) h space r space' → Answered bytes r space'
+    pub plan_way : (r : Answer) {space' : List ℕ} → Plans (office m) h space r space' → Answered bytes r space'
     unfolding sheet_response
-    plan_way (Refused k p) v = asked_no bytes w.head _ (then_plan ∙ same_plan ∙ sym v.asked)
-    plan_way (Made c d) v =
+    plan_way (Err q) v = asked_no bytes w.head _ q (then_plan ∙ same_plan ∙ sym v.asked)
+    plan_way (Ok p) v =
         let all = same_plan ∙ made_yes v in
         record {
           same = made_records v (lent n) all ∙ sym (ap (λ a. reply a (plan_records m h (lent n))) (then_plan ∙ all)) ∙ responds bytes w.head space;
           writable = made_writable v;
         }
 
--- ---- every case
+-- The sheet at the front of the lists.
+abbrev pub sheet_of_entries : Whole → Entries → Sheet
+sheet_of_entries s e = measured_by (given s.measured (take (length_count s.measured s.n) e.lengths)) (take s.n e.initial) (take s.n e.goal)
 
-module _ {bytes initial goal lens : List ℕ} {sheet : case.Sheet} {initial' goal' lens' : List ℕ}
-    (w : ReadsSheet bytes 0 initial goal lens sheet initial' goal' lens') where
-  pub askable : Askable sheet
-  askable = record { small = λ n m t e f. read.whole_small w f }
+-- ---- every case of what was read
 
-  pub answered : {space : List ℕ} {r : Planned} {space' : List ℕ} → 4 * most ≤ length space → Asks sheet (length bytes) initial' goal' lens' space r space'
-      → Answered bytes r space'
-  answered {space} {r} {space'} room v = by sheet refl v.by_case
+module _ {bytes : List ℕ} {entries entries' : Entries} where
+  pub unread_answered : {u : Unread} → ReadsSheet bytes 0 entries (Err u) entries' → (space : List ℕ) → Answered bytes (Err (refusal_of u)) space
+  unread_answered {u} w space = by u w
     where
-      by : (s : case.Sheet) → sheet ≡ s → AsksBy s (length bytes) initial' goal' lens' space r space' → Answered bytes r space'
-      by Headless f e = headless_way space' (read.headless w f) e
-      by (Long m) f e = long_way space' (read.long w f) e
-      by (Broken m p) f e = broken_way space' (read.broken w f) e
-      by (Whole n m t e) f v = whole (same? (length bytes) e)
-        where
-          is : IsWhole bytes 0 n m t e
-          is = read.whole w f
+      by : (v : Unread) → ReadsSheet bytes 0 entries (Err v) entries' → Answered bytes (Err (refusal_of v)) space
+      by Headless w = headless_way space (read.headless w refl) refl
+      by (Long m) w = long_way space (read.long w refl) refl
+      by (Broken m p) w = broken_way space (read.broken w refl) refl
 
-          whole : (length bytes ≡ e) ⊎ (¬ (length bytes ≡ e)) → Answered bytes r space'
-          whole (inr ne) = tail_way is space' ne (v.tail ne)
-          whole (inl exact) =
-              plan_way is exact space room r (rw (read.whole_initial w f, read.whole_goal w f, read.whole_lengths w f) at (v.plans exact))
+  module _ {s : Whole} (w : ReadsSheet bytes 0 entries (Ok s) entries') where
+    pub tail_answered : (space : List ℕ) → length bytes ≢ s.end → Answered bytes (Err (refused_as s.method (no_record (2 * s.n + length_count s.measured s.n + 1)))) space
+    tail_answered space ne = tail_way (read.whole w refl) space ne refl
 
-  pub writable : {space : List ℕ} {r : Planned} {space' : List ℕ} → 4 * most ≤ length space → Asks sheet (length bytes) initial' goal' lens' space r space'
-      → Writable r space'
-  writable room v = (answered room v).writable
+    pub plan_answered : {space : List ℕ} {r : Answer} {space' : List ℕ} → length bytes ≡ s.end → 4 * most ≤ length space
+        → Plans (office s.method) (sheet_of_entries s entries') space r space' → Answered bytes r space'
+    plan_answered {space} {r} exact room v =
+        plan_way (read.whole w refl) exact space room r (rw (read.whole_initial w refl, read.whole_goal w refl, read.whole_lengths w refl) at v)

@@ -1,81 +1,74 @@
--- The ways out of `refused` and of `ask`. Assumes nothing.
-use Prim.Native.Nat.{ℕ, ◌+◌, ◌*◌, ◌^◌, ◌≤◌, ◌<◌}
+-- The ways out of `ask`. Assumes nothing.
+use Prim.Native.Nat.{ℕ, ◌+◌, ◌*◌, ◌≤◌}
 use mathlib.Core.Path.{◌≡◌, refl, sym, ◌∙◌, ap, subst}
 use mathlib.Core.Logic.{◌≢◌}
-use mathlib.Core.Bool.{Bool, cond}
+use mathlib.Core.Bool.{Bool, true, false}
 use mathlib.Core.List.{List}
+use Rattle.std.specs.Prelude.{Option, Result, Ok, Err}
+use Rattle.std.specs.Bool.{then_some}
+use Rattle.std.specs.Borrow.{Bor}
+use Rattle.std.specs.Result.{MatchResult, IsErrAnd}
 use native.Mathlib.Omega.{arith}
 use lib.ListN.{length, take}
-use lib.Seq.{length-take-le}
 use Rattle.blocks.specs.State.{most}
-use Rattle.blocks.specs.Question.{is_method}
-use Rattle.blocks.specs.Method.{method_of}
-use Rattle.blocks.specs.Sheet.{office}
-use Rattle.planner.specs.Answers.{named_as, Plans}
-use Rattle.planner.specs.declared.Method.{Method}
-use Rattle.planner.specs.declared.Named.{Named}
-use Rattle.planner.specs.declared.Named.TheVariants.{By, Unknown}
-use Rattle.planner.specs.declared.Planned.{Planned}
-use Rattle.planner.specs.declared.Planned.TheVariants.{Refused}
-use Rattle.sheets.specs.declared.Sheet.{Sheet}
-use Rattle.sheets.specs.declared.Sheet.TheVariants.{Headless, Long, Broken, Whole}
-use Rattle.sheets.specs.Sheets.{length_count}
-use Rattle.responder.specs.Answers.{refused_as, Askable, parts_of, AsksBy, Asks}
+use Rattle.blocks.specs.Length.{given}
+use Rattle.blocks.specs.Sheet.{measured_by, office}
+use Rattle.lengths.specs.Checks.{given_in}
+use Rattle.sheets.specs.declared.Whole.{Whole}
+use Rattle.sheets.specs.declared.Unread.{Unread}
+use Rattle.sheets.specs.declared.Entries.{Entries}
+use Rattle.sheets.specs.Sheets.{Sheet, length_count}
+use Rattle.sheets.specs.Reads.{ReadsSheet}
+use Rattle.sheets.proofs.SheetLaws as read
+use Rattle.refusals.specs.declared.Refusal.{Refusal}
+use Rattle.planner.specs.Answers.{Answer, Plans}
+use Rattle.responder.specs.Answers.{no_record, refused_as, refusal_of, Answered}
+use Rattle.responder.proofs.AnsweredLaws.{unread_answered, tail_answered, plan_answered}
 
--- ---- question 1 before a "no"
+module _ {bytes : List ℕ} {entries entries' : Entries} {sheet : Sheet} (w : ReadsSheet bytes 0 entries sheet entries') where
+  -- ---- what was read, by what became of its error
 
-module _ (m k p : ℕ) {named : Named} (e : named_as named ≡ method_of m) where
-  pub by_way : {by : Method} → named ≡ By by → Refused k p ≡ refused_as m k p
-  by_way f = ap (λ o. cond (is_method o) (Refused k p) (Refused 1 0)) (sym (ap named_as f) ∙ e)
+  pub whole_read : {s : Whole} → MatchResult sheet (λ x. ◌≡◌ {A = Result Whole Refusal} (Ok s) (Ok x)) (λ u. IsErrAnd {T = Whole} (Ok s) (λ q. q ≡ refusal_of u))
+      → ReadsSheet bytes 0 entries (Ok s) entries'
+  whole_read {s} m = subst (λ t. ReadsSheet bytes 0 entries t entries') (by sheet m) w
+    where
+      by : (t : Sheet) → MatchResult t (λ x. ◌≡◌ {A = Result Whole Refusal} (Ok s) (Ok x)) (λ u. IsErrAnd {T = Whole} (Ok s) (λ q. q ≡ refusal_of u)) → t ≡ Ok s
+      by (Ok x) e = let same : s ≡ x = cc in ap Ok (sym same)
+      by (Err u) e = absurd e
 
-  pub unknown_way : named ≡ Unknown → Refused 1 0 ≡ refused_as m k p
-  unknown_way f = ap (λ o. cond (is_method o) (Refused k p) (Refused 1 0)) (sym (ap named_as f) ∙ e)
+  pub whole_small : (s : Whole) → MatchResult sheet (λ x. ◌≡◌ {A = Result Whole Refusal} (Ok s) (Ok x)) (λ u. IsErrAnd {T = Whole} (Ok s) (λ q. q ≡ refusal_of u))
+      → s.n ≤ most
+  whole_small s m = read.whole_small (whole_read m) refl
 
--- ---- the cases of a sheet
-
-module _ {sheet : Sheet} (size : ℕ) (initial goal lengths space : List ℕ) where
-  case : {s : Sheet} {r : Planned} {space' : List ℕ} → sheet ≡ s → AsksBy s size initial goal lengths space r space'
-      → Asks sheet size initial goal lengths space r space'
-  case {s} {r} {space'} e v = subst (λ (t : Sheet). Asks t size initial goal lengths space r space') (sym e) (record { by_case = v })
-
-  pub headless_way : sheet ≡ Headless → Asks sheet size initial goal lengths space (Refused 12 0) space
-  headless_way e = case e refl
-
-  pub long_way : {m : ℕ} {r : Planned} → sheet ≡ Long m → r ≡ refused_as m 2 0 → Asks sheet size initial goal lengths space r space
-  long_way e f = case e f
-
-  pub broken_way : {m p : ℕ} {r : Planned} → sheet ≡ Broken m p → r ≡ refused_as m 12 p → Asks sheet size initial goal lengths space r space
-  broken_way e f = case e f
-
-  module _ {n m : ℕ} {t : Bool} {end : ℕ} (e : sheet ≡ Whole n m t end) {k : ℕ} (count : k ≡ length_count t n) where
-    pub tail_way : {r : Planned} → size ≢ end → r ≡ refused_as m 12 (2 * n + k + 1) → Asks sheet size initial goal lengths space r space
-    tail_way ne f = case e (record { tail = λ _. f ∙ ap (λ i. refused_as m 12 (2 * n + i + 1)) count; plans = λ x. absurd (ne x) })
-
-    pub plan_way : {r : Planned} {space' : List ℕ} → size ≡ end
-        → Plans (office m) (parts_of t n k initial goal lengths) space r space'
-        → Asks sheet size initial goal lengths space r space'
-    plan_way {r} {space'} x v =
-        let asked = subst (λ i. Plans (office m) (parts_of t n i initial goal lengths) space r space') count v in
-        case e (record { tail = λ ne. absurd (ne x); plans = λ _. asked })
+  pub unread_way : {q : Refusal}
+      → MatchResult sheet (λ x. ◌≡◌ {A = Result Whole Refusal} (Err q) (Ok x)) (λ u. IsErrAnd {T = Whole} (Err q) (λ r. r ≡ refusal_of u))
+      → (space : List ℕ) → Answered bytes (Err q) space
+  unread_way {q} m space = by sheet w m
+    where
+      by : (t : Sheet) → ReadsSheet bytes 0 entries t entries'
+          → MatchResult t (λ x. ◌≡◌ {A = Result Whole Refusal} (Err q) (Ok x)) (λ u. IsErrAnd {T = Whole} (Err q) (λ r. r ≡ refusal_of u))
+          → Answered bytes (Err q) space
+      by (Ok x) v e = absurd cc
+      by (Err u) v e = subst (λ r. Answered bytes (Err r) space) (sym e) (unread_answered v space)
 
 -- ---- of a whole sheet
 
-module _ {sheet : Sheet} (w : Askable sheet) {n m : ℕ} {t : Bool} {end : ℕ} (e : sheet ≡ Whole n m t end) where
-  pub twice_fits : 2 * n < 2 ^ 64
-  twice_fits = omega (arith, w.small n m t end e)
+module _ {bytes : List ℕ} {entries entries' : Entries} {s : Whole} (w : ReadsSheet bytes 0 entries (Ok s) entries') {k : ℕ} (count : k ≡ length_count s.measured s.n) where
+  pub tail_way : length bytes ≢ s.end → {t q : Refusal} → t ≡ no_record (2 * s.n + k + 1) → q ≡ refused_as s.method t → (space : List ℕ) → Answered bytes (Err q) space
+  tail_way ne {t} {q} e f space =
+      subst (λ r. Answered bytes (Err r) space)
+      (sym (f ∙ ap (refused_as s.method) (e ∙ ap (λ i. no_record (2 * s.n + i + 1)) count)))
+      (tail_answered w space ne)
 
-  pub part : (l : List ℕ) → length l ≡ most → n ≡ length (take n l)
-  part l long = sym (length-take-le n l (omega (arith, w.small n m t end e, long)))
+  -- the lengths that are lent are given
+  given_lem : (t : Bool) (l : Bor (List ℕ)) → given_in (then_some t l) ≡ given t l.now
+  given_lem true l = refl
+  given_lem false l = refl
 
-  module _ {k : ℕ} (few : k ≤ n) where
-    pub both_fits : 2 * n + k < 2 ^ 64
-    both_fits = omega (arith, few, w.small n m t end e)
-
-    pub sum_fits : 2 * n + k + 1 < 2 ^ 64
-    sum_fits = omega (arith, few, w.small n m t end e)
-
-    pub place_fits : 2 * n + k + 1 < 2 ^ 16
-    place_fits = omega (arith, few, w.small n m t end e)
-
-    pub length_part : (l : List ℕ) → length l ≡ most → k ≡ length (take k l)
-    length_part l long = sym (length-take-le k l (omega (arith, few, w.small n m t end e, long)))
+  pub plan_way : {space : List ℕ} {r : Answer} {space' : List ℕ} {lengths : Option (Bor (List ℕ))} (l : Bor (List ℕ)) → length bytes ≡ s.end → 4 * most ≤ length space
+      → lengths ≡ then_some s.measured l → l.now ≡ take k entries'.lengths
+      → Plans (office s.method) (measured_by (given_in lengths) (take s.n entries'.initial) (take s.n entries'.goal)) space r space'
+      → Answered bytes r space'
+  plan_way {space} {r} {space'} l exact room e f v =
+      let lent = ap given_in e ∙ given_lem s.measured l ∙ ap (given s.measured) (f ∙ ap (λ i. take i entries'.lengths) count) in
+      plan_answered w exact room (rw lent at v)

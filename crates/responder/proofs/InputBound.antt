@@ -5,6 +5,7 @@ use mathlib.Core.Path.{◌≡◌, refl, sym, ◌∙◌, ap}
 use mathlib.Core.Logic.{◌⊎◌, inl, inr}
 use mathlib.Core.Bool.{Bool, true, false, ◌&&◌, cond, false≢true}
 use mathlib.Core.List.{List, [], ◌++◌}
+use Rattle.std.specs.Prelude.{Option, Some, None, Ok, Err}
 use native.Mathlib.Omega.{arith}
 use lib.Dec.{ltb}
 use lib.ListN.{length, take, drop, length-take, length-append, take-append-drop}
@@ -13,15 +14,13 @@ use Rattle.blocks.specs.State.{most}
 use Rattle.blocks.specs.Method.{method_of}
 use Rattle.blocks.specs.Question.{IsMethod, is_method}
 use Rattle.lists.proofs.ReflectLaws.{Reflects, holds, fails, decided, not-not, to_true, leb_reflects, ltb_reflects}
-use Rattle.planner.specs.declared.Planned.{Planned}
+use Rattle.planner.specs.Answers.{Answer}
 use Rattle.records.specs.Marks.{marks, mark_of, size}
 use Rattle.records.specs.declared.Kind.TheVariants.{Hd, Nw, Gl, Hl, Ln}
 use Rattle.records.proofs.ReadLaws.{found_room}
 use Rattle.sheets.specs.declared.Head.{Head}
-use Rattle.sheets.specs.declared.Head.TheVariants.{Missing, There}
-use Rattle.sheets.specs.declared.Sheet.{Sheet}
-use Rattle.sheets.specs.declared.Sheet.TheVariants.{Headless, Long, Broken, Whole}
-use Rattle.sheets.specs.Sheets.{head_kind, head_at, length_count, nows_at, goals_at, lengths_at, end_at, nows, goals, lengths, sheet_at}
+use Rattle.sheets.specs.declared.Unread.TheVariants.{Headless, Long, Broken}
+use Rattle.sheets.specs.Sheets.{head_kind, there, head_at, length_count, nows_at, goals_at, lengths_at, end_at, nows, goals, lengths, Sheet, sheet_at}
 use Rattle.sheets.specs.Cases.{IsLong, RecordMissing, IsBroken, IsWhole, Says}
 use Rattle.sheets.proofs.PlaceLaws.{size_hd, size_hl, length_count_le, end_at_lem}
 use Rattle.sheets.proofs.HeadLaws.{head_record, record_head, no_record, no_head, head_room, long_sheet}
@@ -31,7 +30,8 @@ use Rattle.responder.specs.Wanted.{decided_by, wanted_by, wanted}
 use Rattle.responder.specs.Bounds.{Decides, WantedWithin, enough, WantedBounded, Enough}
 use Rattle.responder.proofs.PrefixLaws.{same_record, same_entries}
 use Rattle.responder.proofs.DecidedLaws.{method_reflects}
-use Rattle.responder.proofs.AnsweredLaws.{Answered, headless_way, unnamed_way, long_way, broken_way, tail_way}
+use Rattle.responder.specs.Answers.{Answered}
+use Rattle.responder.proofs.AnsweredLaws.{headless_way, unnamed_way, long_way, broken_way, tail_way}
 use Rattle.responder.proofs.SizeLaws.{enough_is}
 
 -- the end of a GL record and of a LN record by the records before it, and of a record that is not there
@@ -53,12 +53,12 @@ module _ (bytes more : List ℕ) where
 
   -- ---- with more bytes behind, the head and the records that decide are as they were
 
-  pub head_stays : {t : Bool} {n m : ℕ} → head_at bytes 0 ≡ There t n m → head_at all 0 ≡ There t n m
+  pub head_stays : {t : Bool} {n m : ℕ} → head_at bytes 0 ≡ there t n m → head_at all 0 ≡ there t n m
   head_stays {t} e =
-      let f = head_record bytes 0 t e in
+      let f = head_record bytes 0 e in
       record_head all 0 t (same_record bytes more (head_kind t) 0 (found_room (head_kind t) bytes 0 f) ∙ f)
 
-  no_head_stays : head_at bytes 0 ≡ Missing → size Hd ≤ length bytes → head_at all 0 ≡ Missing
+  no_head_stays : head_at bytes 0 ≡ None → size Hd ≤ length bytes → head_at all 0 ≡ None
   no_head_stays e h =
       no_head all 0
       (same_record bytes more Hd 0 (omega (arith, h)) ∙ no_record bytes 0 e false)
@@ -123,15 +123,15 @@ module _ (bytes more : List ℕ) where
 
   -- ---- and so is the answer
 
-  same_answer : {r : Planned} → Answered all r [] → Answered bytes r [] → response_to all ≡ response_to bytes
+  same_answer : {r : Answer} → Answered all r [] → Answered bytes r [] → response_to all ≡ response_to bytes
   same_answer a b = sym a.same ∙ b.same
 
   module _ (none : wanted bytes ≡ 0) where
     -- behind a head with a method so many bytes are there
-    there : {t : Bool} {n m d : ℕ} → head_at bytes 0 ≡ There t n m → IsMethod m → decided_by (sheet_at bytes 0) ≡ d → d ≤ end_at 0 n (length_count t n) + 1
+    decided_there : {t : Bool} {n m d : ℕ} → head_at bytes 0 ≡ there t n m → IsMethod m → decided_by (sheet_at bytes 0) ≡ d → d ≤ end_at 0 n (length_count t n) + 1
         → d ≤ length bytes
     unfolding wanted
-    there {t} {n} {m} {d} e i is l =
+    decided_there {t} {n} {m} {d} e i is l =
         by (is_method (method_of m)) (to_true (method_reflects m) i) (ltb_reflects (length bytes) (decided_by (sheet_at bytes 0)))
         (ap (λ f. wanted_by f bytes) (sym e) ∙ none)
       where
@@ -141,12 +141,12 @@ module _ (bytes more : List ℕ) where
         by true f (fails h) z = omega (arith, h, is)
         by false f r z = absurd (false≢true f)
 
-    headless_there : head_at bytes 0 ≡ Missing → size Hd ≤ length bytes
+    headless_there : head_at bytes 0 ≡ None → size Hd ≤ length bytes
     unfolding wanted
     headless_there e = let z : size Hd - length bytes ≡ 0 = ap (λ f. wanted_by f bytes) (sym e) ∙ none in omega (arith, z)
 
     -- without a method question 1 is answered no
-    named : {t : Bool} {n m : ℕ} → head_at bytes 0 ≡ There t n m → (IsMethod m → response_to all ≡ response_to bytes) → response_to all ≡ response_to bytes
+    named : {t : Bool} {n m : ℕ} → head_at bytes 0 ≡ there t n m → (IsMethod m → response_to all ≡ response_to bytes) → response_to all ≡ response_to bytes
     named {t} {n} {m} e f = by (decided (method_reflects m))
       where
         by : IsMethod m ⊎ (¬ IsMethod m) → response_to all ≡ response_to bytes
@@ -162,13 +162,13 @@ module _ (bytes more : List ℕ) where
         by (inr (inr f)) = omega (arith, f.place, f.few)
 
     same : (s : Sheet) → sheet_at bytes 0 ≡ s → Says bytes 0 s → response_to all ≡ response_to bytes
-    same Headless e w = same_answer (headless_way [] (no_head_stays w (headless_there w)) refl) (headless_way [] w refl)
-    same (Long m) e w = same_answer (long_way [] (long_stays w) refl) (long_way [] w refl)
-    same (Broken m p) e w = named w.head (λ i.
-        let h = there w.head i (ap decided_by e) (missing_ends w.n (length_count w.measured w.n) p (broken_size w)) in
+    same (Err Headless) e w = same_answer (headless_way [] (no_head_stays w (headless_there w)) refl) (headless_way [] w refl)
+    same (Err (Long m)) e w = same_answer (long_way [] (long_stays w) refl) (long_way [] w refl)
+    same (Err (Broken m p)) e w = named w.head (λ i.
+        let h = decided_there w.head i (ap decided_by e) (missing_ends w.n (length_count w.measured w.n) p (broken_size w)) in
         same_answer (broken_way [] (broken_stays w h) refl) (broken_way [] w refl))
-    same (Whole n m t end) e w = named w.head (λ i.
-        let h = there w.head i (ap decided_by e) (omega (arith, w.end)) in
+    same (Ok s) e w = named w.head (λ i.
+        let h = decided_there w.head i (ap decided_by e) (omega (arith, w.end)) in
         same_answer
         (tail_way (whole_stays w (omega (arith, h))) [] (λ f. omega (arith, f, h, length-append bytes more)) refl)
         (tail_way w [] (λ f. omega (arith, f, h)) refl))
@@ -182,12 +182,18 @@ pub wanted_bounded : WantedBounded
 unfolding wanted
 wanted_bounded bytes l = by (head_at bytes 0) refl
   where
-    by : (h : Head) → head_at bytes 0 ≡ h → length bytes + wanted_by h bytes ≤ enough
-    by Missing e = omega (arith, size_hd, enough_is)
-    by (There t n m) e = behind (is_method (method_of m)) (ltb_reflects (length bytes) (decided_by (sheet_at bytes 0)))
+    by : (o : Option Head) → head_at bytes 0 ≡ o → length bytes + wanted_by o bytes ≤ enough
+    by None e = omega (arith, size_hd, enough_is)
+    by (Some h) e = behind (is_method (method_of h.method)) (ltb_reflects (length bytes) (decided_by (sheet_at bytes 0)))
       where
+        t : Bool
+        t = h.measured
+
+        n : ℕ
+        n = h.n
+
         small : length bytes < decided_by (sheet_at bytes 0) → n ≤ most
-        small h = not-not (leb_reflects n most) (λ k. omega (arith, h, head_room bytes 0 e, ap decided_by (long_sheet bytes 0 e (omega (arith, k)))))
+        small l = not-not (leb_reflects n most) (λ k. omega (arith, l, head_room bytes 0 e, ap decided_by (long_sheet bytes 0 e (omega (arith, k)))))
 
         behind : (a : Bool) {u : Bool} → Reflects (length bytes < decided_by (sheet_at bytes 0)) u
             → length bytes + cond (a && u) (end_at 0 n (length_count t n) + 1 - length bytes) 0 ≤ enough

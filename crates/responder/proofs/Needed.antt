@@ -5,6 +5,7 @@ use mathlib.Core.Path.{◌≡◌, refl, sym, ◌∙◌, ap, ap₂}
 use mathlib.Core.Logic.{inl, inr, ◌≢◌}
 use mathlib.Core.Bool.{Bool, false, ◌&&◌, cond, true≢false}
 use mathlib.Core.List.{List, [], ◌∷◌, ◌++◌}
+use Rattle.std.specs.Prelude.{None, Ok, Err}
 use native.Mathlib.Omega.{arith}
 use lib.ListN.{length, get_or, length-append}
 use Rattle.blocks.specs.Question.{Asked, all_yes, no', first_no, FirstNo, IsMethod}
@@ -13,24 +14,24 @@ use Rattle.blocks.specs.Sheet.{Sheet, office}
 use Rattle.blocks.specs.Answer.{plan_for, plan_answer}
 use Rattle.blocks.proofs.SheetLaws.{plan_among}
 use Rattle.lists.proofs.ReflectLaws.{Reflects, holds, fails, to_true, ltb_reflects}
-use Rattle.planner.specs.declared.Planned.TheVariants.{Refused}
+use Rattle.refusals.specs.declared.Refusal.{Refusal}
+use Rattle.planner.specs.Answers.{Answer}
 use Rattle.records.specs.Marks.{marks, mark_of, size}
 use Rattle.records.specs.Records.{record_at, record_bytes, has_record, field_of}
 use Rattle.records.specs.declared.Kind.{Kind}
 use Rattle.records.specs.declared.Kind.TheVariants.{Hd, Nw, Gl, Ln}
-use Rattle.sheets.specs.declared.Head.TheVariants.{Missing, There}
 use Rattle.records.proofs.RoundTrip.{round_trip}
 use Rattle.records.proofs.ThereLaws.{missing_unique}
-use Rattle.sheets.specs.declared.Sheet as case
-use Rattle.sheets.specs.declared.Sheet.TheVariants.{Headless, Long, Broken, Whole}
-use Rattle.sheets.specs.Sheets.{head_at, length_count, nows_at, goals_at, lengths_at, end_at, nows, goals, lengths, sheet_at}
+use Rattle.sheets.specs.declared.Unread.TheVariants.{Headless, Long, Broken}
+use Rattle.sheets.specs.Sheets as case
+use Rattle.sheets.specs.Sheets.{there, head_at, length_count, nows_at, goals_at, lengths_at, end_at, nows, goals, lengths, sheet_at}
 use Rattle.sheets.specs.Cases.{RecordMissing, IsBroken, IsWhole, Says}
 use Rattle.sheets.proofs.HeadLaws.{head_room}
 use Rattle.sheets.proofs.SheetLaws.{sheet_says}
 use Rattle.responder.specs.Responses.{asks_nows, asks_goals, asks_length_records, asks_tail, sheet_in, lent, program_questions}
 use Rattle.responder.specs.Responses.{refusal_bytes, plan_records, reply, sheet_response, response_to}
 use Rattle.responder.specs.Wanted.{decided_by, wanted_by, wanted}
-use Rattle.responder.specs.Answers.{refused_as}
+use Rattle.responder.specs.Answers.{no_method, no_record, refused_as}
 use Rattle.responder.specs.Bounds.{RecordEnds, Undecided, Needed}
 use Rattle.responder.proofs.ToldLaws.{refusal_same, plan_not_refusal}
 use Rattle.responder.proofs.PrefixLaws.{entries_room, entries_grow, one, one_there, one_bytes}
@@ -86,7 +87,7 @@ not_first t n m bytes {p} w (inr (i, inr (l, inr (a, inr (b, inr (c, inr (_, f))
 
 module _ (bytes : List ℕ) (more : wanted bytes ≢ 0) where
   -- behind a head: it says a method, and fewer bytes are there than decide
-  open_behind : {t : Bool} {n m : ℕ} → head_at bytes 0 ≡ There t n m → IsMethod m × (length bytes < decided_by (sheet_at bytes 0))
+  open_behind : {t : Bool} {n m : ℕ} → head_at bytes 0 ≡ there t n m → IsMethod m × (length bytes < decided_by (sheet_at bytes 0))
   unfolding wanted
   open_behind {t} {n} {m} e = by (method_reflects m) (ltb_reflects (length bytes) (decided_by (sheet_at bytes 0))) (λ z. more (ap (λ f. wanted_by f bytes) e ∙ z))
     where
@@ -97,13 +98,13 @@ module _ (bytes : List ℕ) (more : wanted bytes ≢ 0) where
       by (fails i) (holds l) z = absurd (z refl)
       by (fails i) (fails l) z = absurd (z refl)
 
-  open_head : head_at bytes 0 ≡ Missing → length bytes < size Hd
+  open_head : head_at bytes 0 ≡ None → length bytes < size Hd
   unfolding wanted
   open_head e = let z : size Hd - length bytes ≢ 0 = λ z. more (ap (λ f. wanted_by f bytes) e ∙ z) in omega (arith, z)
 
 -- Question 1 has a yes.
-asked_as : {m : ℕ} → IsMethod m → (k p : ℕ) → Refused k p ≡ refused_as m k p
-asked_as {m} i k p = ap (λ t. cond t (Refused k p) (Refused 1 0)) (sym (to_true (method_reflects m) i))
+asked_as : {m : ℕ} → IsMethod m → (p : ℕ) → ◌≡◌ {A = Answer} (Err (no_record p)) (Err (refused_as m (no_record p)))
+asked_as {m} i p = ap (λ t. Err (cond t (no_record p) no_method)) (sym (to_true (method_reflects m) i))
 
 -- A record ends at the place, and the bytes do not reach the end of the next.
 exact : (at q : ℕ) {p : ℕ} → p ≡ 1 + q → RecordEnds at → nows_at 0 + q * size Nw ≤ at → at < size Hd + p * size Nw → at ≡ nows_at 0 + q * size Nw
@@ -121,11 +122,11 @@ length-place n d = omega arith
 
 -- ---- the cases of a sheet
 
-head_alone : head_at (record_bytes Hd (0 ∷ 0 ∷ [])) 0 ≡ There false 0 0
+head_alone : head_at (record_bytes Hd (0 ∷ 0 ∷ [])) 0 ≡ there false 0 0
 unfolding record_bytes mark_of marks head_at record_at has_record field_of
 head_alone = refl
 
-headless : (bytes : List ℕ) → head_at bytes 0 ≡ Missing → length bytes ≡ 0 → Undecided bytes
+headless : (bytes : List ℕ) → head_at bytes 0 ≡ None → length bytes ≡ 0 → Undecided bytes
 headless [] e z = record { more = empty; small = (round_trip Hd 0 0 0 []).bytes (omega arith) (omega arith); other = λ x. clash (refusal_same (alone ∙ x ∙ sym nothing)).0 }
   where
     empty : List ℕ
@@ -157,20 +158,20 @@ module _ (bytes : List ℕ) (ends : RecordEnds (length bytes)) where
       k : ℕ
       k = length_count t n
 
-      there : nows_at 0 ≤ length bytes
-      there = head_room bytes 0 w.head
+      begun : nows_at 0 ≤ length bytes
+      begun = head_room bytes 0 w.head
 
       -- one record more, with which the answer has another number or place
       with_one : (j : Kind) → NotSo n (length_count t n) (bytes ++ one j) p → Undecided bytes
       with_one j other =
           let all = bytes ++ one j in
           let same = responds all (head_stays bytes (one j) w.head) [] in
-          let answer = (broken_way [] w (asked_as i 12 p)).same in
+          let answer = (broken_way [] w (asked_as i p)).same in
           record { more = one j; small = one_bytes j; other = λ x. not_first t n m all other (first_of t n m all p (same ∙ x ∙ sym answer)) }
 
       -- the GL records begin within the bytes, and so do the LN records
       goals_begin : length (nows bytes 0 n) ≡ n → goals_at 0 n ≤ length bytes
-      goals_begin e = rw e at (entries_room Nw bytes n (nows_at 0) there)
+      goals_begin e = rw e at (entries_room Nw bytes n (nows_at 0) begun)
 
       lengths_begin : length (nows bytes 0 n) ≡ n → length (goals bytes 0 n) ≡ n → lengths_at 0 n ≤ length bytes
       lengths_begin e f = rw f at (entries_room Gl bytes n (goals_at 0 n) (goals_begin e))
@@ -178,7 +179,7 @@ module _ (bytes : List ℕ) (ends : RecordEnds (length bytes)) where
       by : RecordMissing bytes 0 n (length_count t n) p → Undecided bytes
       by (inl f) =
           let c : ℕ = length (nows bytes 0 n) in
-          let at : length bytes ≡ nows_at 0 + c * size Nw = exact (length bytes) c f.place ends (entries_room Nw bytes n (nows_at 0) there) l in
+          let at : length bytes ≡ nows_at 0 + c * size Nw = exact (length bytes) c f.place ends (entries_room Nw bytes n (nows_at 0) begun) l in
           let grown : c < length (nows (bytes ++ one Nw) 0 n) = entries_grow Nw bytes (one Nw) n (nows_at 0) f.few (one_there Nw bytes at) in
           with_one Nw (record {
             now = λ g. absurd (omega (arith, g, f.place, grown));
@@ -234,7 +235,7 @@ whole bytes {n} {m} {t} {e} w i l = record {
     longer z = omega (arith, z, reached, length-append bytes (0 ∷ []))
 
     tailed : refusal_bytes 12 (2 * n + k + 1) ≡ response_to (bytes ++ (0 ∷ []))
-    tailed = (tail_way (whole_stays bytes (0 ∷ []) w reached) [] longer (asked_as i 12 (2 * n + k + 1))).same
+    tailed = (tail_way (whole_stays bytes (0 ∷ []) w reached) [] longer (asked_as i (2 * n + k + 1))).same
 
     rows : NotSo n k bytes (2 * n + k + 1)
     rows =
@@ -253,7 +254,7 @@ needed bytes ends more = by (sheet_at bytes 0) refl (sheet_says bytes 0)
     start l (inr (i, e)) = absurd (omega (arith, l, e))
 
     by : (s : case.Sheet) → sheet_at bytes 0 ≡ s → Says bytes 0 s → Undecided bytes
-    by Headless e w = headless bytes w (start (open_head bytes more w) ends)
-    by (Long m) e w = absurd (omega (arith, (open_behind bytes more w.head).1, ap decided_by e, head_room bytes 0 w.head))
-    by (Broken m p) e w = let o = open_behind bytes more w.head in broken bytes ends w o.0 (rw (ap decided_by e) at o.1)
-    by (Whole n m t f) e w = let o = open_behind bytes more w.head in whole bytes w o.0 (rw (ap decided_by e) at o.1)
+    by (Err Headless) e w = headless bytes w (start (open_head bytes more w) ends)
+    by (Err (Long m)) e w = absurd (omega (arith, (open_behind bytes more w.head).1, ap decided_by e, head_room bytes 0 w.head))
+    by (Err (Broken m p)) e w = let o = open_behind bytes more w.head in broken bytes ends w o.0 (rw (ap decided_by e) at o.1)
+    by (Ok s) e w = let o = open_behind bytes more w.head in whole bytes w o.0 (rw (ap decided_by e) at o.1)

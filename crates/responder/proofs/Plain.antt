@@ -9,16 +9,14 @@ use lib.ListN.{length}
 use Rattle.blocks.specs.Question.{Question, no', first_no, asks_method, asks_size}
 use Rattle.blocks.specs.Sheet.{plain, office, plan_questions}
 use Rattle.records.specs.Marks.{size}
-use Rattle.records.specs.Records.{record_at, entries_at}
+use Rattle.records.specs.Records.{found, record_at, entries_at}
 use Rattle.records.specs.declared.Kind.TheVariants.{Hd, Hl, Nw, Gl}
-use Rattle.records.specs.declared.Found.TheVariants.{Record}
-use Rattle.sheets.specs.declared.Head.TheVariants.{There}
-use Rattle.sheets.specs.Sheets.{head_by, head_at, end_at, nows, goals}
+use Rattle.sheets.specs.Sheets.{there, head_by, head_at, end_at, nows, goals}
 use Rattle.responder.specs.Responses.{asks_nows, asks_goals, asks_length_records, asks_tail, lent, program_questions, plan_records, reply, sheet_response, response_by, response_to}
 use Rattle.responder.specs.Plain.{plain_tail, plain_questions, AsBefore}
 use Rattle.responder.proofs.BehindLaws.{same_behind}
 
-head_plain : (n m : ℕ) (bytes : List ℕ) → record_at Hd bytes 0 ≡ Record n m → head_at bytes 0 ≡ There false n m
+head_plain : (n m : ℕ) (bytes : List ℕ) → record_at Hd bytes 0 ≡ found n m → head_at bytes 0 ≡ there false n m
 unfolding head_at
 head_plain n m bytes e = ap (λ f. head_by f (record_at Hl bytes 0)) e
 

@@ -4,17 +4,17 @@ use mathlib.Core.Path.{◌≡◌, refl, sym, ◌∙◌, ap, ap₂}
 use mathlib.Core.Logic.{◌≢◌}
 use mathlib.Core.Bool.{Bool, true, false, ◌&&◌}
 use mathlib.Core.List.{List, [], ◌∷◌, ◌++◌}
+use Rattle.std.specs.Prelude.{Option, Some, None}
 use native.Mathlib.Omega.{arith}
 use borrow.Author.Tests.{le-leb, ltb-true}
 use lib.Dec.{ltb, eqb}
 use lib.ListN.{length, length-append, get_or-append}
 use Rattle.lists.specs.Search.{pick}
 use Rattle.records.specs.Marks.{mark_of, size}
-use Rattle.records.specs.Records.{field_at, has_record, field_of, record_at, found_if, and_then, entries_at, record_bytes}
+use Rattle.records.specs.Records.{field_at, has_record, field_of, found, record_at, found_if, and_then, entries_at, record_bytes}
 use Rattle.records.specs.declared.Kind.{Kind}
-use Rattle.records.specs.declared.Found.{Found}
+use Rattle.records.specs.declared.Fields.{Fields}
 use Rattle.records.specs.RoundTrip.{Bytes, entry_bytes}
-use Rattle.records.specs.declared.Found.TheVariants.{Record, Missing}
 use Rattle.records.proofs.ReadLaws.{found_room}
 use Rattle.records.proofs.EntryLaws.{entries_none}
 use Rattle.records.proofs.RoundTrip.{small_nil, small_append, round_trip, entries_trip}
@@ -49,7 +49,7 @@ module _ (bytes more : List ℕ) where
 
     pub same_record : record_at k all at ≡ record_at k bytes at
     unfolding record_at
-    same_record = ap₂ found_if same_has (ap₂ Record (same_fields 0) (same_fields 1))
+    same_record = ap₂ found_if same_has (ap₂ found (same_fields 0) (same_fields 1))
 
   -- Of n records, j are looked at: all of them, or those up to the first that is not there.
   pub same_entries : (k : Kind) (n j at : ℕ) → min n (suc (length (entries_at k bytes at n))) ≤ j → at + j * size k ≤ length bytes
@@ -61,10 +61,10 @@ module _ (bytes more : List ℕ) where
       ap (λ f. and_then f (entries_at k all (at + size k) n)) (same_record k at (omega arith))
       ∙ by (record_at k bytes at) (entries_at k bytes (at + size k) n) (λ m. same_entries k n j (at + size k) m (omega arith)) l
     where
-      by : (f : Found) (rest : List ℕ) → (min n (suc (length rest)) ≤ j → entries_at k all (at + size k) n ≡ rest)
-          → min (suc n) (suc (length (and_then f rest))) ≤ suc j → and_then f (entries_at k all (at + size k) n) ≡ and_then f rest
-      by (Record x y) rest same m = ap (λ r. x ∷ r) (same (omega arith))
-      by Missing rest same m = refl
+      by : (o : Option Fields) (rest : List ℕ) → (min n (suc (length rest)) ≤ j → entries_at k all (at + size k) n ≡ rest)
+          → min (suc n) (suc (length (and_then o rest))) ≤ suc j → and_then o (entries_at k all (at + size k) n) ≡ and_then o rest
+      by (Some f) rest same m = ap (λ r. f.first ∷ r) (same (omega arith))
+      by None rest same m = refl
 
 -- ---- one record more
 
@@ -78,14 +78,14 @@ module _ (k : Kind) (bytes : List ℕ) where
       rest : List ℕ
       rest = entries_at k bytes (at + size k) n
 
-      by : (f : Found) → record_at k bytes at ≡ f → (at + size k ≤ length bytes → at + size k + length rest * size k ≤ length bytes)
-          → at + length (and_then f rest) * size k ≤ length bytes
-      by (Record x y) e again = let r = again (found_room k bytes at e) in omega (arith, r)
-      by Missing e again = omega arith
+      by : (o : Option Fields) → record_at k bytes at ≡ o → (at + size k ≤ length bytes → at + size k + length rest * size k ≤ length bytes)
+          → at + length (and_then o rest) * size k ≤ length bytes
+      by (Some f) e again = let r = again (found_room k bytes at e) in omega (arith, r)
+      by None e again = omega arith
 
   -- With the record behind them there are more.
   pub entries_grow : (more : List ℕ) (n at : ℕ) → length (entries_at k bytes at n) < n
-      → record_at k (bytes ++ more) (at + length (entries_at k bytes at n) * size k) ≢ Missing
+      → record_at k (bytes ++ more) (at + length (entries_at k bytes at n) * size k) ≢ None
       → length (entries_at k bytes at n) < length (entries_at k (bytes ++ more) at n)
   unfolding entries_at
   entries_grow more zero at l e = absurd (omega arith)
@@ -97,20 +97,20 @@ module _ (k : Kind) (bytes : List ℕ) where
       rest : List ℕ
       rest = entries_at k bytes (at + size k) n
 
-      first : (f : Found) (l : List ℕ) → f ≢ Missing → 0 < length (and_then f l)
-      first (Record x y) l e = omega arith
-      first Missing l e = absurd (e refl)
+      first : (o : Option Fields) (l : List ℕ) → o ≢ None → 0 < length (and_then o l)
+      first (Some f) l e = omega arith
+      first None l e = absurd (e refl)
 
-      by : (f : Found) → record_at k bytes at ≡ f
-          → (length rest < n → record_at k all (at + size k + length rest * size k) ≢ Missing → length rest < length (entries_at k all (at + size k) n))
-          → length (and_then f rest) < suc n → record_at k all (at + length (and_then f rest) * size k) ≢ Missing
-          → length (and_then f rest) < length (and_then (record_at k all at) (entries_at k all (at + size k) n))
-      by (Record a b) g again l e =
-          let same : record_at k all at ≡ Record a b = same_record bytes more k at (found_room k bytes at g) ∙ g in
+      by : (o : Option Fields) → record_at k bytes at ≡ o
+          → (length rest < n → record_at k all (at + size k + length rest * size k) ≢ None → length rest < length (entries_at k all (at + size k) n))
+          → length (and_then o rest) < suc n → record_at k all (at + length (and_then o rest) * size k) ≢ None
+          → length (and_then o rest) < length (and_then (record_at k all at) (entries_at k all (at + size k) n))
+      by (Some f) g again l e =
+          let same : record_at k all at ≡ Some f = same_record bytes more k at (found_room k bytes at g) ∙ g in
           let place : at + suc (length rest) * size k ≡ at + size k + length rest * size k = omega arith in
           let r = again (omega arith) (λ z. e (ap (record_at k all) place ∙ z)) in
           rw same (omega (arith, r))
-      by Missing g again l e =
+      by None g again l e =
           let place : at + 0 * size k ≡ at = omega arith in
           first (record_at k all at) (entries_at k all (at + size k) n) (λ z. e (ap (record_at k all) place ∙ z))
 
@@ -122,7 +122,7 @@ pub one_bytes : (k : Kind) → Bytes (one k)
 unfolding entry_bytes
 one_bytes k = small_append (entry_bytes k (0 ∷ [])) (small_append (record_bytes k (0 ∷ 0 ∷ [])) ((round_trip k 0 0 0 []).bytes (omega arith) (omega arith)) small_nil) small_nil
 
-pub one_there : (k : Kind) (bytes : List ℕ) {at : ℕ} → length bytes ≡ at → record_at k (bytes ++ one k) at ≢ Missing
+pub one_there : (k : Kind) (bytes : List ℕ) {at : ℕ} → length bytes ≡ at → record_at k (bytes ++ one k) at ≢ None
 one_there k bytes e z =
     let none : entries_at k (bytes ++ one k) (length bytes) 1 ≡ [] = entries_none k (bytes ++ one k) (length bytes) 1 (ap (record_at k (bytes ++ one k)) e ∙ z) in
     let some : ◌≡◌ {A = ℕ} 0 1 = sym (ap length none) ∙ ap length (entries_trip k bytes (0 ∷ []) []).back in

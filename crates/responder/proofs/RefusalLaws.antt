@@ -6,6 +6,7 @@ use mathlib.Core.Logic.{inl, inr, ◌↔◌}
 use mathlib.Core.Bool.{Bool, true, false}
 use mathlib.Core.List.{List, [], ◌∷◌, ◌++◌}
 use mathlib.Core.Option.{none, some}
+use Rattle.std.specs.Prelude.{Option, Some, None}
 use native.Mathlib.Omega.{arith}
 use lib.ListN.{length, length-replicate}
 use Rattle.blocks.specs.Loop.{memberᵇ}
@@ -20,12 +21,11 @@ use Rattle.blocks.proofs.LengthLaws.{overhangs_decides}
 use Rattle.blocks.proofs.SheetLaws.{plan_accepts, never_13}
 use Rattle.records.specs.Marks.{marks, mark_of}
 use Rattle.records.specs.declared.Kind.TheVariants.{Nw, Gl, Ln}
-use Rattle.records.specs.declared.Found.TheVariants.{Record}
+use Rattle.records.specs.Records.{found}
 use Rattle.records.proofs.ReadLaws.{found_first, found_second}
 use Rattle.records.proofs.ThereLaws.{found_there, there_found, missing_there, all_entries}
 use Rattle.sheets.specs.declared.Head as declared
-use Rattle.sheets.specs.declared.Head.TheVariants.{Missing, There}
-use Rattle.sheets.specs.Sheets.{head_kind, head_at, length_count, nows_at, goals_at, lengths_at, nows}
+use Rattle.sheets.specs.Sheets.{head_kind, there, head_at, length_count, nows_at, goals_at, lengths_at, nows}
 use Rattle.sheets.proofs.HeadLaws.{head_record, record_head, no_record, head_room}
 use Rattle.responder.specs.Responses.{asks_nows, asks_goals, asks_length_records, asks_tail, record_questions, sheet_in, lent, program_questions}
 use Rattle.responder.specs.Responses.{refusal_bytes, plan_records, reply, sheet_response, response_by, response_to}
@@ -42,19 +42,19 @@ head_fields true = refl
 head_fields false = refl
 
 module _ (bytes : List ℕ) (t : Bool) (n m : ℕ) where
-  found_head : head_at bytes 0 ≡ There t n m → Head bytes t n m
+  found_head : head_at bytes 0 ≡ there t n m → Head bytes t n m
   found_head h =
       let k = head_kind t in
-      let e = head_record bytes 0 t h in
+      let e = head_record bytes 0 h in
       record { there = found_there k bytes 0 e; slabs = found_first k bytes 0 e; method = found_second k bytes 0 e (head_fields t) }
 
-  pub head_found : Head bytes t n m → head_at bytes 0 ≡ There t n m
+  pub head_found : Head bytes t n m → head_at bytes 0 ≡ there t n m
   head_found h =
       let k = head_kind t in
       let e = there_found k bytes 0 h.there in
-      record_head bytes 0 t (e ∙ ap₂ Record (found_first k bytes 0 e ∙ sym h.slabs) (found_second k bytes 0 e (head_fields t) ∙ sym h.method))
+      record_head bytes 0 t (e ∙ ap₂ found (found_first k bytes 0 e ∙ sym h.slabs) (found_second k bytes 0 e (head_fields t) ∙ sym h.method))
 
-asked_is : (bytes : List ℕ) {h : declared.Head} → head_at bytes 0 ≡ h → asked bytes ≡ asked_by h bytes
+asked_is : (bytes : List ℕ) {o : Option declared.Head} → head_at bytes 0 ≡ o → asked bytes ≡ asked_by o bytes
 unfolding asked
 asked_is bytes e = ap (λ h. asked_by h bytes) e
 
@@ -85,8 +85,8 @@ module _ (t : Bool) (n m : ℕ) (bytes : List ℕ) where
 refuses : (bytes : List ℕ) (k p : ℕ) → (asked bytes ≡ no' k p) ↔ ProgramRefused bytes k p
 refuses bytes k p = by (head_at bytes 0) refl
   where
-    by : (h : declared.Head) → head_at bytes 0 ≡ h → (asked bytes ≡ no' k p) ↔ ProgramRefused bytes k p
-    by Missing e = (into, out)
+    by : (o : Option declared.Head) → head_at bytes 0 ≡ o → (asked bytes ≡ no' k p) ↔ ProgramRefused bytes k p
+    by None e = (into, out)
       where
         gone : NoHead bytes
         gone t = missing_there (head_kind t) bytes 0 (no_record bytes 0 e t)
@@ -101,11 +101,20 @@ refuses bytes k p = by (head_at bytes 0) refl
         out : ProgramRefused bytes k p → asked bytes ≡ no' k p
         out (ProgramRefused.head _ number place) = asked_is bytes e ∙ ap₂ no' (sym number) (sym place)
         out (ProgramRefused.behind t n m h f) = absurd (gone t h.there)
-    by (There t n m) e = (λ a. ProgramRefused.behind t n m (found_head bytes t n m e) ((ordered_refuses t n m bytes k p).0 (sym (asked_is bytes e) ∙ a)), out)
+    by (Some h) e = (λ a. ProgramRefused.behind t n m (found_head bytes t n m e) ((ordered_refuses t n m bytes k p).0 (sym (asked_is bytes e) ∙ a)), out)
       where
+        t : Bool
+        t = h.measured
+
+        n : ℕ
+        n = h.n
+
+        m : ℕ
+        m = h.method
+
         out : ProgramRefused bytes k p → asked bytes ≡ no' k p
         out (ProgramRefused.head gone _ _) = absurd (gone t (found_head bytes t n m e).there)
-        out (ProgramRefused.behind u i j h f) = asked_is bytes (head_found bytes u i j h) ∙ (ordered_refuses u i j bytes k p).1 f
+        out (ProgramRefused.behind u i j w f) = asked_is bytes (head_found bytes u i j w) ∙ (ordered_refuses u i j bytes k p).1 f
 
 -- ---- the answer to it
 
@@ -113,15 +122,15 @@ pub refused_response : (bytes : List ℕ) (k p : ℕ) → asked bytes ≡ no' k 
 unfolding response_to sheet_response
 refused_response bytes k p a = by (head_at bytes 0) refl
   where
-    by : (h : declared.Head) → head_at bytes 0 ≡ h → response_by h bytes ≡ refusal_bytes k p
-    by Missing e = ap (λ v. reply v []) (sym (asked_is bytes e) ∙ a)
-    by (There t n m) e =
-        ap (λ v. reply v (plan_records m (sheet_in t n bytes) (lent n))) (in_order t n m bytes ∙ sym (asked_is bytes e) ∙ a)
+    by : (o : Option declared.Head) → head_at bytes 0 ≡ o → response_by o bytes ≡ refusal_bytes k p
+    by None e = ap (λ v. reply v []) (sym (asked_is bytes e) ∙ a)
+    by (Some h) e =
+        ap (λ v. reply v (plan_records h.method (sheet_in h.measured h.n bytes) (lent h.n))) (in_order h.measured h.n h.method bytes ∙ sym (asked_is bytes e) ∙ a)
 
 -- ---- all yes
 
 module _ (bytes : List ℕ) (t : Bool) (n m : ℕ) where
-  complete : head_at bytes 0 ≡ There t n m → first_no (program_questions t n m bytes) ≡ all_yes → Complete bytes t n m
+  complete : head_at bytes 0 ≡ there t n m → first_no (program_questions t n m bytes) ≡ all_yes → Complete bytes t n m
   unfolding program_questions asks_method asks_size asks_nows asks_goals asks_length_records asks_tail
   complete e a =
       let k = length_count t n in
@@ -151,9 +160,10 @@ module _ (bytes : List ℕ) (t : Bool) (n m : ℕ) where
 accepts : (bytes : List ℕ) → (asked bytes ≡ all_yes) ↔ ((t : Bool) × (n : ℕ) × (m : ℕ) × Complete bytes t n m)
 accepts bytes = (into (head_at bytes 0) refl, out)
   where
-    into : (h : declared.Head) → head_at bytes 0 ≡ h → asked bytes ≡ all_yes → (t : Bool) × (n : ℕ) × (m : ℕ) × Complete bytes t n m
-    into Missing e a = absurd (clash (sym a ∙ asked_is bytes e))
-    into (There t n m) e a = (t, n, m, complete bytes t n m e (in_order t n m bytes ∙ sym (asked_is bytes e) ∙ a))
+    into : (o : Option declared.Head) → head_at bytes 0 ≡ o → asked bytes ≡ all_yes → (t : Bool) × (n : ℕ) × (m : ℕ) × Complete bytes t n m
+    into None e a = absurd (clash (sym a ∙ asked_is bytes e))
+    into (Some h) e a =
+        (h.measured, h.n, h.method, complete bytes h.measured h.n h.method e (in_order h.measured h.n h.method bytes ∙ sym (asked_is bytes e) ∙ a))
 
     out : (t : Bool) × (n : ℕ) × (m : ℕ) × Complete bytes t n m → asked bytes ≡ all_yes
     out (t, n, m, c) = asked_is bytes (head_found bytes t n m c.begun.head) ∙ sym (in_order t n m bytes) ∙ all_yes_lem bytes t n m c

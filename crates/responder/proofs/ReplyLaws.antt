@@ -2,6 +2,7 @@
 use Prim.Native.Nat.{ℕ, ◌+◌, ◌*◌, ◌^◌, ◌≤◌, ◌<◌}
 use mathlib.Core.Path.{◌≡◌, refl, sym, ◌∙◌, ap, ap₂, subst}
 use mathlib.Core.List.{List, [], ◌∷◌, ◌++◌}
+use Rattle.std.specs.Prelude.{Ok, Err}
 use native.Mathlib.Omega.{arith}
 use lib.ListN.{length, take, drop, length-append}
 use lib.Seq.{length-take-le}
@@ -14,13 +15,14 @@ use Rattle.records.specs.declared.Kind.{Kind}
 use Rattle.records.specs.declared.Kind.TheVariants.{Pl, Lf, No}
 use Rattle.lists.proofs.WriteLaws.{overwrite_front, overwrite_next}
 use Rattle.records.proofs.WriteLaws.{length_record}
+use Rattle.refusals.specs.Refusals.{number_of}
+use Rattle.refusals.specs.declared.Refusal.{Refusal}
+use Rattle.planner.specs.Answers.{Answer}
 use Rattle.planner.specs.declared.Planned.{Planned}
-use Rattle.planner.specs.declared.Planned.TheVariants.{Refused, Made}
 use Rattle.responder.specs.Responses.{move_bytes, response_to}
 use Rattle.responder.specs.Told.{Tells}
-use Rattle.responder.specs.Answers.{Wrote, Roomy, Responds, reply_of, Writable, MovesFit, PutMoves}
+use Rattle.responder.specs.Answers.{Wrote, Roomy, Responds, reply_of, Writable, Answered, MovesFit, PutMoves}
 use Rattle.responder.proofs.SizeLaws.{size_pl, size_lf, size_no, longest_is}
-use Rattle.responder.proofs.AnsweredLaws.{Answered}
 use Rattle.responder.proofs.ToldLaws.{told}
 
 -- ---- one record at the front
@@ -37,13 +39,20 @@ plan_room w = omega (arith, w.room, longest_is, size_pl)
 
 -- ---- the ways out of `write_answer`
 
-pub refused_written : {a : Planned} {k p : ℕ} (pairs : List ℕ) {out : List ℕ} {r : ℕ} {out' : List ℕ} → a ≡ Refused k p → PutRecord No k p 0 out r out'
-    → Wrote (reply_of a pairs) out r out'
-refused_written pairs {out} {r} {out'} e p = subst (λ b. Wrote (reply_of b pairs) out r out') (sym e) (front_record p)
+pub refused_written : {a : Answer} {q : Refusal} {k : ℕ} (pairs : List ℕ) {out : List ℕ} {r : ℕ} {out' : List ℕ} → a ≡ Err q → k ≡ number_of q.question
+    → PutRecord No k q.place 0 out r out' → Wrote (reply_of a pairs) out r out'
+refused_written {q = q} pairs {out} {r} {out'} e n p =
+    let w = subst (λ i. PutRecord No i q.place 0 out r out') n p in subst (λ b. Wrote (reply_of b pairs) out r out') (sym e) (front_record w)
 
-module _ {a : Planned} {c d : ℕ} {pairs : List ℕ} (w : Writable a pairs) (e : a ≡ Made c d) where
+module _ {a : Answer} {plan : Planned} {pairs : List ℕ} (w : Writable a pairs) (e : a ≡ Ok plan) where
+  abbrev c : ℕ
+  c = plan.count
+
+  abbrev d : ℕ
+  d = plan.misplaced
+
   abbrev counts : (c ≤ 2 * most) × (d ≤ most) × (2 * c ≤ length pairs)
-  counts = w.counts c d e
+  counts = w.counts plan e
 
   pub count_fits : c < 2 ^ 16
   count_fits = omega (arith, counts.0)
@@ -98,7 +107,7 @@ cramped_way bytes h =
 pub roomy : {out : List ℕ} → 6 + 12 * most ≤ length out → Roomy out
 roomy h = record { room = omega (arith, h, longest_is) }
 
-pub written_way : {bytes : List ℕ} {a : Planned} {space out : List ℕ} {r : ℕ} {out' : List ℕ} → 6 + 12 * most ≤ length out → Answered bytes a space
+pub written_way : {bytes : List ℕ} {a : Answer} {space out : List ℕ} {r : ℕ} {out' : List ℕ} → 6 + 12 * most ≤ length out → Answered bytes a space
     → Wrote (reply_of a space) out r out' → Responds bytes out r out'
 written_way {bytes} {out = out} {r} {out'} room w v =
     record {

@@ -5,6 +5,7 @@ use mathlib.Core.Logic.{inl, inr}
 use mathlib.Core.Bool.{Bool}
 use mathlib.Core.List.{List, [], ◌∷◌, ◌++◌, append_assoc, append-nil}
 use mathlib.Core.Option.{some}
+use Rattle.std.specs.Prelude.{None}
 use native.Mathlib.Omega.{arith}
 use lib.Dec.{ltb}
 use lib.ListN.{length, length-append, length-replicate}
@@ -23,10 +24,11 @@ use Rattle.blocks.proofs.Theorems.{theorems}
 use Rattle.blocks.proofs.GoalStateLaws.{bounded}
 use Rattle.blocks.proofs.SheetTheorems.{sheet_theorems}
 use Rattle.records.specs.Marks.{marks, mark_of, size}
-use Rattle.records.specs.Records.{has_record, record_at, record_bytes}
+use Rattle.records.specs.Records.{found, has_record, record_at, record_bytes}
+use Rattle.std.proofs.lemmas.Option.{same_Some}
+use Rattle.records.specs.declared.Fields.{Fields}
 use Rattle.records.specs.declared.Kind.{Kind}
 use Rattle.records.specs.declared.Kind.TheVariants.{Pl, Lf, No}
-use Rattle.records.specs.declared.Found.TheVariants.{Record, Missing}
 use Rattle.records.proofs.RoundTrip.{read_between}
 use Rattle.records.proofs.WriteLaws.{length_record}
 use Rattle.sheets.specs.Sheets.{nows}
@@ -42,39 +44,36 @@ use Rattle.responder.proofs.RefusalLaws.{head_found, all_yes_lem, refused_respon
 
 -- A record of two fields that stands between others.
 two_between : (k : Kind) (x y : ℕ) (front rest : List ℕ) → (mark_of k).fields ≡ 2
-    → record_at k (front ++ (record_bytes k (x ∷ y ∷ []) ++ rest)) (length front) ≡ Record x y
-two_between k x y front rest two = read_between k x y front rest ∙ ap (λ f. Record x (pick (ltb 1 f) y)) two
+    → record_at k (front ++ (record_bytes k (x ∷ y ∷ []) ++ rest)) (length front) ≡ found x y
+two_between k x y front rest two = read_between k x y front rest ∙ ap (λ f. found x (pick (ltb 1 f) y)) two
 
-lift_between : (a x : ℕ) (front rest : List ℕ) → record_at Lf (front ++ (record_bytes Lf (a ∷ x ∷ []) ++ rest)) (length front) ≡ Record a x
+lift_between : (a x : ℕ) (front rest : List ℕ) → record_at Lf (front ++ (record_bytes Lf (a ∷ x ∷ []) ++ rest)) (length front) ≡ found a x
 unfolding mark_of marks
 lift_between a x front rest = two_between Lf a x front rest refl
 
-plan_read : (c d : ℕ) (p : Plan) → record_at Pl (plan_bytes c d p) 0 ≡ Record c d
+plan_read : (c d : ℕ) (p : Plan) → record_at Pl (plan_bytes c d p) 0 ≡ found c d
 unfolding mark_of marks
 plan_read c d p = two_between Pl c d [] (move_bytes p) refl
 
-refusal_read : (k p : ℕ) → record_at No (refusal_bytes k p) 0 ≡ Record k p
+refusal_read : (k p : ℕ) → record_at No (refusal_bytes k p) 0 ≡ found k p
 unfolding mark_of marks
 refusal_read k p = ap (λ l. record_at No l 0) (sym (append-nil (refusal_bytes k p))) ∙ two_between No k p [] [] refl
 
 -- NO is not PL
-refusal_other : (k p : ℕ) → record_at Pl (refusal_bytes k p) 0 ≡ Missing
+refusal_other : (k p : ℕ) → record_at Pl (refusal_bytes k p) 0 ≡ None
 unfolding mark_of marks has_record record_at record_bytes
 refusal_other k p = refl
 
 -- two refusals with the same bytes are one, and none is a plan
 pub refusal_same : {k p i j : ℕ} → refusal_bytes k p ≡ refusal_bytes i j → (k ≡ i) × (p ≡ j)
 refusal_same {k} {p} {i} {j} e =
-    let both : Record k p ≡ Record i j = sym (refusal_read k p) ∙ ap (λ l. record_at No l 0) e ∙ refusal_read i j in
-    let number : k ≡ i = cc in
-    let place : p ≡ j = cc in
-    (number, place)
+    let both = same_Some _ _ (sym (refusal_read k p) ∙ ap (λ l. record_at No l 0) e ∙ refusal_read i j) in
+    (ap (λ (f : Fields). f.first) both, ap (λ (f : Fields). f.second) both)
 
 pub plan_not_refusal : (c d : ℕ) (p : Plan) (k q : ℕ) → plan_bytes c d p ≡ refusal_bytes k q → ⊥
 plan_not_refusal c d p k q e =
-    let both : Record c d ≡ Missing = sym (plan_read c d p) ∙ ap (λ l. record_at Pl l 0) e ∙ refusal_other k q in
-    let z : ◌≡◌ {A = ℕ} 0 1 = cc in
-    omega arith
+    let both : found c d ≡ None = sym (plan_read c d p) ∙ ap (λ l. record_at Pl l 0) e ∙ refusal_other k q in
+    cc
 
 -- Lifts one after another, whatever stands before and behind them.
 lifts_back : (front : List ℕ) (p : Plan) (rest : List ℕ) → lifts_at (front ++ (move_bytes p ++ rest)) (length front) (length p) ≡ p
@@ -183,11 +182,11 @@ module _ (bytes : List ℕ) (t : Bool) (n : ℕ) (by : Method) (same : method_of
       less : misplaced_count s g ≤ most
       less = omega (arith, misplaced_le s g, w.accepted.small)
 
-      promised : (c d : ℕ) → record_at Pl answer 0 ≡ Record c d → TellsPlan bytes answer c d
+      promised : (c d : ℕ) → record_at Pl answer 0 ≡ found c d → TellsPlan bytes answer c d
       promised c d e =
-          let both : Record (length p) (misplaced_count s g) ≡ Record c d = sym (plan_read (length p) (misplaced_count s g) p) ∙ e in
-          let count : length p ≡ c = cc in
-          let misplaced : misplaced_count s g ≡ d = cc in
+          let both = same_Some _ _ (sym (plan_read (length p) (misplaced_count s g) p) ∙ e) in
+          let count : length p ≡ c = ap (λ (f : Fields). f.first) both in
+          let misplaced : misplaced_count s g ≡ d = ap (λ (f : Fields). f.second) both in
           subst (λ j. TellsPlan bytes answer c j) misplaced (subst (λ i. TellsPlan bytes answer i (misplaced_count s g)) count tells_plan)
 
       other : (k q : ℕ) → answer ≡ refusal_bytes k q → ⊥
@@ -196,11 +195,10 @@ module _ (bytes : List ℕ) (t : Bool) (n : ℕ) (by : Method) (same : method_of
 -- ---- a refusal
 
 module _ (bytes : List ℕ) (k p : ℕ) (a : asked bytes ≡ no' k p) where
-  no_plan : (c d : ℕ) → record_at Pl (refusal_bytes k p) 0 ≡ Record c d → ⊥
+  no_plan : (c d : ℕ) → record_at Pl (refusal_bytes k p) 0 ≡ found c d → ⊥
   no_plan c d e =
-      let both : Missing ≡ Record c d = sym (refusal_other k p) ∙ e in
-      let z : ◌≡◌ {A = ℕ} 0 1 = cc in
-      omega arith
+      let both : None ≡ found c d = sym (refusal_other k p) ∙ e in
+      cc
 
   refusal_tells : Tells bytes (refusal_bytes k p)
   refusal_tells =

@@ -1,21 +1,19 @@
 -- What the functions promise. Assumes nothing.
-use Rattle.std.specs.Prelude.{ℕ, ◌+◌, ◌*◌, ◌≤◌, ◌<◌, ◌≡◌, ◌≢◌, Bool, cond, List, length, take}
+use Rattle.std.specs.Prelude.{ℕ, ◌+◌, ◌*◌, ◌≤◌, ◌<◌, ◌≡◌, cond, Ok, Err, List, length, take}
 use Rattle.blocks.specs.State.{most}
 use Rattle.blocks.specs.Method.{method_of}
 use Rattle.blocks.specs.Question.{is_method}
 use Rattle.blocks.specs.Answer.{moves}
-use Rattle.blocks.specs.Length.{given}
 use Rattle.lists.specs.Lists.{overwrite, overwrite_at}
 use Rattle.records.specs.Marks.{size}
 use Rattle.records.specs.declared.Kind.TheVariants.{Pl, Lf}
-use Rattle.blocks.specs.Sheet as sheet
-use Rattle.blocks.specs.Sheet.{office}
-use Rattle.planner.specs.Answers.{Plans}
+use Rattle.refusals.specs.Refusals.{number_of}
+use Rattle.refusals.specs.declared.Refusal.{Refusal}
+use Rattle.refusals.specs.declared.Question.TheVariants.{Method, TooMany, Record}
+use Rattle.planner.specs.Answers.{Answer}
 use Rattle.planner.specs.declared.Planned.{Planned}
-use Rattle.planner.specs.declared.Planned.TheVariants.{Refused, Made}
-use Rattle.sheets.specs.declared.Sheet.{Sheet}
-use Rattle.sheets.specs.declared.Sheet.TheVariants.{Headless, Long, Broken, Whole}
-use Rattle.sheets.specs.Sheets.{length_count}
+use Rattle.sheets.specs.declared.Unread.{Unread}
+use Rattle.sheets.specs.declared.Unread.TheVariants.{Headless, Long, Broken}
 use Rattle.responder.specs.Responses.{refusal_bytes, move_bytes, plan_bytes, response_to}
 use Rattle.responder.specs.Told.{Tells}
 
@@ -41,45 +39,43 @@ pub record Responds (bytes out : List ℕ) (r : ℕ) (out' : List ℕ) : Type 0 
   -- the second part follows from the first: a caller that lends the front of `out` on needs no proof
   pub within : (r ≤ length out') × (r ≡ length (take r out'))
 
--- ---- the questions to a sheet that was read
+-- ---- a "no" by what was read
 
--- A "no" of number k and place p behind question 1.
-abbrev pub refused_as : ℕ → ℕ → ℕ → Planned
-refused_as m k p = cond (is_method (method_of m)) (Refused k p) (Refused 1 0)
+abbrev pub no_method : Refusal
+no_method = record { question = Method; place = 0 }
 
--- A whole sheet is within the limit.
-pub record Askable (sheet : Sheet) : Type 0 where
-  pub small : (n m : ℕ) (measured : Bool) (e : ℕ) → sheet ≡ Whole n m measured e → n ≤ most
+abbrev pub too_many : Refusal
+too_many = record { question = TooMany; place = 0 }
 
--- The sheet at the front of the lists.
-abbrev pub parts_of : Bool → ℕ → ℕ → List ℕ → List ℕ → List ℕ → sheet.Sheet
-parts_of measured n k initial goal lengths = sheet.measured_by (given measured (take k lengths)) (take n initial) (take n goal)
+-- "Place: the records before it".
+abbrev pub no_record : ℕ → Refusal
+no_record p = record { question = Record; place = p }
 
--- A whole sheet of an input of some size: a tail, or what planning answers to its entries.
-pub record AsksWhole (n m : ℕ) (measured : Bool) (e size : ℕ) (initial goal lengths space : List ℕ) (r : Planned) (space' : List ℕ) : Type 0 where
-  pub tail : size ≢ e → r ≡ refused_as m 12 (2 * n + length_count measured n + 1)
-  pub plans : size ≡ e → Plans (office m) (parts_of measured n (length_count measured n) initial goal lengths) space r space'
+-- A "no" behind question 1.
+abbrev pub refused_as : ℕ → Refusal → Refusal
+refused_as m r = cond (is_method (method_of m)) r no_method
 
--- What is answered to a sheet, by its case.
-abbrev pub AsksBy : Sheet → ℕ → List ℕ → List ℕ → List ℕ → List ℕ → Planned → List ℕ → Type 0
-AsksBy Headless size initial goal lengths space r space' = r ≡ Refused 12 0
-AsksBy (Long m) size initial goal lengths space r space' = r ≡ refused_as m 2 0
-AsksBy (Broken m p) size initial goal lengths space r space' = r ≡ refused_as m 12 p
-AsksBy (Whole n m measured e) size initial goal lengths space r space' = AsksWhole n m measured e size initial goal lengths space r space'
-
-pub record Asks (sheet : Sheet) (size : ℕ) (initial goal lengths space : List ℕ) (r : Planned) (space' : List ℕ) : Type 0 where
-  pub by_case : AsksBy sheet size initial goal lengths space r space'
+-- To a sheet that is not whole.
+abbrev pub refusal_of : Unread → Refusal
+refusal_of Headless = no_record 0
+refusal_of (Long m) = refused_as m too_many
+refusal_of (Broken m p) = refused_as m (no_record p)
 
 -- ---- the answer of planning as records
 
 -- The records of each case: NO with number and place, or PL with the counts and the LF records of the pairs at the front of the space.
-abbrev pub reply_of : Planned → List ℕ → List ℕ
-reply_of (Refused k p) pairs = refusal_bytes k p
-reply_of (Made c d) pairs = plan_bytes c d (moves (take (2 * c) pairs))
+abbrev pub reply_of : Answer → List ℕ → List ℕ
+reply_of (Ok p) pairs = plan_bytes p.count p.misplaced (moves (take (2 * p.count) pairs))
+reply_of (Err r) pairs = refusal_bytes (number_of r.question) r.place
 
 -- The counts of a plan are within the bounds, and its pairs are in the space.
-pub record Writable (a : Planned) (pairs : List ℕ) : Type 0 where
-  pub counts : (c d : ℕ) → a ≡ Made c d → (c ≤ 2 * most) × (d ≤ most) × (2 * c ≤ length pairs)
+pub record Writable (a : Answer) (pairs : List ℕ) : Type 0 where
+  pub counts : (p : Planned) → a ≡ Ok p → (p.count ≤ 2 * most) × (p.misplaced ≤ most) × (2 * p.count ≤ length pairs)
+
+-- The records of an answer are the definition's, and they can be written.
+pub record Answered (bytes : List ℕ) (r : Answer) (space' : List ℕ) : Type 0 where
+  pub same : reply_of r space' ≡ response_to bytes
+  pub writable : Writable r space'
 
 -- ---- the LF records
 

@@ -1,12 +1,11 @@
 -- How much of the input decides the answer, and how long an answer can be. Statements alone; `proofs/InputBound.antt`,
 -- `proofs/Needed.antt` and `proofs/AnswerBound.antt` prove them. Assumes nothing.
-use Rattle.std.specs.Prelude.{ℕ, ◌+◌, ◌-◌, ◌*◌, ◌≤◌, ◌≡◌, ◌⊎◌, ◌≢◌, Bool, List, ◌++◌, length, take}
+use Rattle.std.specs.Prelude.{ℕ, ◌+◌, ◌-◌, ◌*◌, ◌≤◌, ◌≡◌, ◌⊎◌, ◌≢◌, Bool, None, List, ◌++◌, length, take}
 use Rattle.blocks.specs.State.{most}
 use Rattle.records.specs.Marks.{size}
 use Rattle.records.specs.RoundTrip.{Bytes}
 use Rattle.records.specs.declared.Kind.TheVariants.{Hd, Nw}
-use Rattle.sheets.specs.declared.Head.TheVariants.{Missing, There}
-use Rattle.sheets.specs.Sheets.{head_at, length_count, nows_at, end_at}
+use Rattle.sheets.specs.Sheets.{there, head_at, length_count, nows_at, end_at}
 use Rattle.responder.specs.Responses.{response_to}
 use Rattle.responder.specs.Wanted.{wanted}
 use Rattle.responder.specs.Answers.{longest}
@@ -31,8 +30,8 @@ Needed = (bytes : List ℕ) → RecordEnds (length bytes) → wanted bytes ≢ 0
 
 -- No more are wanted than the rest of the head, and behind a head than the rest of its sheet and a byte.
 pub record WantsWithin (bytes : List ℕ) : Type 0 where
-  pub head : head_at bytes 0 ≡ Missing → wanted bytes ≤ size Hd - length bytes
-  pub sheet : (measured : Bool) (n m : ℕ) → head_at bytes 0 ≡ There measured n m → wanted bytes ≤ end_at 0 n (length_count measured n) + 1 - length bytes
+  pub head : head_at bytes 0 ≡ None → wanted bytes ≤ size Hd - length bytes
+  pub sheet : (measured : Bool) (n m : ℕ) → head_at bytes 0 ≡ there measured n m → wanted bytes ≤ end_at 0 n (length_count measured n) + 1 - length bytes
 
 abbrev pub WantedWithin : Type 0
 WantedWithin = (bytes : List ℕ) → WantsWithin bytes

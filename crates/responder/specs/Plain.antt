@@ -4,9 +4,8 @@ use Rattle.std.specs.Prelude.{ℕ, ◌+◌, ◌*◌, ◌≤◌, ◌<◌, ◌≡�
 use Rattle.blocks.specs.Question.{Question, first_no, asks_method, asks_size}
 use Rattle.blocks.specs.Sheet.{plain, office, plan_questions}
 use Rattle.records.specs.Marks.{size}
-use Rattle.records.specs.Records.{record_at}
+use Rattle.records.specs.Records.{found, record_at}
 use Rattle.records.specs.declared.Kind.TheVariants.{Hd, Nw, Gl}
-use Rattle.records.specs.declared.Found.TheVariants.{Record}
 use Rattle.sheets.specs.Sheets.{nows, goals}
 use Rattle.responder.specs.Responses.{asks_nows, asks_goals, lent, plan_records, reply, response_to}
 
@@ -29,5 +28,5 @@ plain_questions n m bytes =
 
 abbrev pub AsBefore : Type 0
 AsBefore =
-    (n m : ℕ) (bytes : List ℕ) → record_at Hd bytes 0 ≡ Record n m
+    (n m : ℕ) (bytes : List ℕ) → record_at Hd bytes 0 ≡ found n m
     → response_to bytes ≡ reply (first_no (plain_questions n m bytes)) (plan_records m (plain (nows bytes 0 n) (goals bytes 0 n)) (lent n))

@@ -1,6 +1,6 @@
 -- What the program asks of its input, and when it refuses, as sentences about the bytes (document 01, "Questions put to a sheet, in order", with question 12;
 -- document 02, Job 3). Statements alone; `proofs/RefusalLaws.antt` proves them. Assumes nothing.
-use Rattle.std.specs.Prelude.{ℕ, ◌+◌, ◌*◌, ◌≤◌, ◌<◌, ◌≡◌, ◌↔◌, Bool, true, false, List, [], ◌∷◌, length}
+use Rattle.std.specs.Prelude.{ℕ, ◌+◌, ◌*◌, ◌≤◌, ◌<◌, ◌≡◌, ◌↔◌, Bool, true, false, Option, Some, None, List, [], ◌∷◌, length}
 use Rattle.blocks.specs.State.{most}
 use Rattle.blocks.specs.Sheet.{Accepted}
 use Rattle.blocks.specs.Question.{Asked, all_yes, no', first_no, FirstNo, numbers, IsMethod}
@@ -15,9 +15,9 @@ use Rattle.responder.specs.Order.{ordered_questions}
 -- ---- what the questions come to
 
 -- "Put first to the head": where it is not there, 12 with no records before it.
-abbrev pub asked_by : declared.Head → List ℕ → Asked
-asked_by declared.TheVariants.Missing bytes = no' 12 0
-asked_by (declared.TheVariants.There measured n m) bytes = first_no (ordered_questions measured n m bytes)
+abbrev pub asked_by : Option declared.Head → List ℕ → Asked
+asked_by None bytes = no' 12 0
+asked_by (Some h) bytes = first_no (ordered_questions h.measured h.n h.method bytes)
 
 unfoldable pub asked : List ℕ → Asked
 asked bytes = asked_by (head_at bytes 0) bytes

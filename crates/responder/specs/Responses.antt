@@ -1,5 +1,5 @@
 -- What the planning program answers, bytes to bytes (document 01, "Records of the program" and question 12; document 02, Job 3). Assumes nothing.
-use Rattle.std.specs.Prelude.{ℕ, ◌+◌, ◌*◌, ◌≤◌, ◌<◌, ◌≡◌, Bool, List, [], ◌∷◌, ◌++◌, eqb, leb, length, replicate}
+use Rattle.std.specs.Prelude.{ℕ, ◌+◌, ◌*◌, ◌≤◌, ◌<◌, ◌≡◌, Bool, Option, Some, None, List, [], ◌∷◌, ◌++◌, eqb, leb, length, replicate}
 use Rattle.blocks.specs.Move.{◌⟶◌, Plan}
 use Rattle.blocks.specs.Question.{Question, Asked, all_yes, no', first_no, asks_method, asks_size}
 use Rattle.blocks.specs.Length.{given}
@@ -10,7 +10,6 @@ use Rattle.records.specs.There.{AllThere, FirstMissing}
 use Rattle.records.specs.declared.Kind.{Kind}
 use Rattle.records.specs.declared.Kind.TheVariants.{Nw, Gl, Pl, Lf, No, Ln}
 use Rattle.sheets.specs.declared.Head.{Head}
-use Rattle.sheets.specs.declared.Head.TheVariants.{Missing, There}
 use Rattle.sheets.specs.Sheets.{head_at, length_count, nows_at, goals_at, lengths_at, end_at, nows, goals, lengths}
 
 -- ---- the questions after the head's: "then 1 and 2 are asked; then 12 of the other records in order; then 4 on."
@@ -97,9 +96,9 @@ sheet_response measured n m bytes =
     reply (first_no (program_questions measured n m bytes)) (plan_records m (sheet_in measured n bytes) (lent n))
 
 -- "Put first to the head": where it is not there, 12 with no records before it.
-abbrev pub response_by : Head → List ℕ → List ℕ
-response_by Missing bytes = refusal_bytes 12 0
-response_by (There measured n m) bytes = sheet_response measured n m bytes
+abbrev pub response_by : Option Head → List ℕ → List ℕ
+response_by None bytes = refusal_bytes 12 0
+response_by (Some h) bytes = sheet_response h.measured h.n h.method bytes
 
 unfoldable pub response_to : List ℕ → List ℕ
 response_to bytes = response_by (head_at bytes 0) bytes

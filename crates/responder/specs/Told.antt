@@ -1,17 +1,16 @@
 -- What an answer tells, read back from its bytes: demand 3 of the records that the program writes. Statements alone; `proofs/ToldLaws.antt` proves them.
 -- Assumes nothing.
-use Rattle.std.specs.Prelude.{ℕ, zero, suc, ◌+◌, ◌*◌, ◌≡◌, ◌⊎◌, ◌↔◌, Bool, List, [], ◌∷◌, length}
+use Rattle.std.specs.Prelude.{ℕ, zero, suc, ◌+◌, ◌*◌, ◌≡◌, ◌⊎◌, ◌↔◌, Bool, Option, Some, None, List, [], ◌∷◌, length}
 use Rattle.blocks.specs.Move.{◌⟶◌, Plan}
 use Rattle.blocks.specs.Method.{Method, plan, outcome, number_of}
 use Rattle.blocks.specs.Steps.{By}
 use Rattle.blocks.specs.Sheet.{goal_state, Arrives}
 use Rattle.blocks.specs.Demands.{HeadCount, Promise}
 use Rattle.records.specs.Marks.{size}
-use Rattle.records.specs.Records.{record_at}
+use Rattle.records.specs.Records.{found, record_at}
 use Rattle.records.specs.RoundTrip.{Bytes}
 use Rattle.records.specs.declared.Kind.TheVariants.{Pl, Lf}
-use Rattle.records.specs.declared.Found.{Found}
-use Rattle.records.specs.declared.Found.TheVariants.{Record, Missing}
+use Rattle.records.specs.declared.Fields.{Fields}
 use Rattle.sheets.specs.Sheets.{nows}
 use Rattle.responder.specs.Responses.{sheet_in, refusal_bytes, response_to}
 use Rattle.responder.specs.Refusals.{Complete, ProgramRefused}
@@ -19,9 +18,9 @@ use Rattle.responder.specs.Refusals.{Complete, ProgramRefused}
 -- ---- lifts read back
 
 -- LF, slab and destination: the lift that was found, and then the rest; nothing where nothing was found.
-abbrev pub and_lift : Found → Plan → Plan
-and_lift (Record a x) rest = (a ⟶ x) ∷ rest
-and_lift Missing rest = []
+abbrev pub and_lift : Option Fields → Plan → Plan
+and_lift (Some f) rest = (f.first ⟶ f.second) ∷ rest
+and_lift None rest = []
 
 -- The LF records that stand one after another from a place on, at most c, up to the first place without one.
 unfoldable pub lifts_at : List ℕ → ℕ → ℕ → Plan
@@ -48,10 +47,10 @@ pub record TellsPlan (bytes answer : List ℕ) (c d : ℕ) : Type 0 where
 -- Of an answer of any kind.
 pub record Tells (bytes answer : List ℕ) : Type 0 where
   -- "It writes PL and the LF records, or one NO."
-  pub either : ((c : ℕ) × (d : ℕ) × (record_at Pl answer 0 ≡ Record c d)) ⊎ ((k : ℕ) × (p : ℕ) × (answer ≡ refusal_bytes k p))
+  pub either : ((c : ℕ) × (d : ℕ) × (record_at Pl answer 0 ≡ found c d)) ⊎ ((k : ℕ) × (p : ℕ) × (answer ≡ refusal_bytes k p))
   -- PL exactly where every question gets a yes, and then demand 3 is kept;
-  pub planned : ((measured : Bool) × (n : ℕ) × (m : ℕ) × Complete bytes measured n m) ↔ ((c : ℕ) × (d : ℕ) × (record_at Pl answer 0 ≡ Record c d))
-  pub promised : (c d : ℕ) → record_at Pl answer 0 ≡ Record c d → TellsPlan bytes answer c d
+  pub planned : ((measured : Bool) × (n : ℕ) × (m : ℕ) × Complete bytes measured n m) ↔ ((c : ℕ) × (d : ℕ) × (record_at Pl answer 0 ≡ found c d))
+  pub promised : (c d : ℕ) → record_at Pl answer 0 ≡ found c d → TellsPlan bytes answer c d
   -- NO exactly with the number and place of the first "no".
   pub refused : (k p : ℕ) → ProgramRefused bytes k p ↔ (answer ≡ refusal_bytes k p)
   -- No field is too large for its two bytes.

@@ -3,16 +3,18 @@
 
 #![tactic(auto)]
 
-ghost use Rattle.std.specs.Prelude.{◌-◌, ◌≡◌};
+ghost use Rattle.std.specs.Prelude.{◌*◌, ◌≤◌, ◌≡◌, length};
+ghost use Rattle.blocks.specs.State.{most};
 ghost use Rattle.sheets.specs.Sheets.{sheet_at};
 ghost use Rattle.responder.specs.Wanted.{decided_by, wanted};
-ghost use Rattle.responder.specs.Answers.{reply_of, refused_as, Responds, Askable, Asks, Writable, Roomy, Wrote, MovesFit, PutMoves};
+ghost use Rattle.responder.specs.Answers.{refused_as, refusal_of, reply_of, Responds, Answered, Writable, Roomy, Wrote, MovesFit, PutMoves};
 
-use lengths::Given;
-use planner::{Call, Named, Planned};
+use lengths::Sheet;
+use planner::{Call, Method, Planned};
 use records::Kind;
+use refusals::{Question, Refusal};
 use rows::MOST;
-use sheets::{Head, Sheet};
+use sheets::{Entries, Head, Unread, Whole};
 
 // The longest input without a tail, HL, MOST NW, MOST GL and MOST LN records, and a byte by which a tail is seen. In numbers, because a constant calls
 // no function; `plan` proves that they are enough.
@@ -28,145 +30,106 @@ pub fn respond(input: &[u8], out: &mut [u8]) -> usize
     if out.len() < LONGEST_ANSWER {
         return 0;
     }
-    let mut initial = [0u16; MOST];
-    let mut goal = [0u16; MOST];
-    let mut lengths = [0u16; MOST];
     let mut space = [0u16; 4 * MOST];
-    let sheet = sheets::read_sheet(input, 0, &mut initial, &mut goal, &mut lengths);
-    let answer = ask(sheet, input.len(), &initial, &goal, &lengths, &mut space);
+    let answer = ask(input, &mut space);
     write_answer(answer, &space, out)
 }
 
 // How many bytes behind these can still matter to the answer; none where it is decided (`Decides` in specs/Bounds.antt).
+#[tactic(auto, unfolding(records::specs::Marks::mark_of, records::specs::Marks::marks))]
 pub fn wanted(input: &[u8]) -> usize
     ensures { result ≡ wanted input.now }
 {
-    let head = sheets::read_head(input, 0);
-    let Head::There {
-        measured,
-        n: first,
-        method: second,
-    } = head
-    else {
-        return up_to(records::size(Kind::Hd), input.len());
+    let Some(head) = sheets::read_head(input, 0) else {
+        return Kind::Hd.size().saturating_sub(input.len());
     };
-    let named = planner::method_of(second);
-    let Named::By(_) = named else {
+    if Method::try_from(head.method).is_err() || decided_by(input) <= input.len() {
         return 0;
-    };
-    if input.len() < decided_by(input) {
-        let n = lists::wide(first);
-        let k = sheets::length_count(measured, n);
-        let end = records::size(Kind::Hd) + (2 * n + k) * records::size(Kind::Nw);
-        up_to(end + 1, input.len())
-    } else {
-        0
     }
+    let n = usize::from(head.n);
+    let k = sheets::length_count(head.measured, n);
+    let end = Kind::Hd.size() + (2 * n + k) * Kind::Nw.size();
+    (end + 1).saturating_sub(input.len())
 }
 
 // How many bytes decide what becomes of the sheet at the front of the input.
+#[tactic(auto, unfolding(records::specs::Marks::mark_of, records::specs::Marks::marks))]
 fn decided_by(input: &[u8]) -> usize
     ensures { result ≡ decided_by (sheet_at input.now 0) }
 {
-    let mut initial = [0u16; MOST];
-    let mut goal = [0u16; MOST];
-    let mut lengths = [0u16; MOST];
-    let sheet = sheets::read_sheet(input, 0, &mut initial, &mut goal, &mut lengths);
-    let head = records::size(Kind::Hd);
-    match sheet {
-        Sheet::Headless => head,
-        Sheet::Long { method: _ } => head,
-        Sheet::Broken { method: _, before } => head + lists::wide(before) * records::size(Kind::Nw),
-        Sheet::Whole {
-            n: _,
-            method: _,
-            measured: _,
-            end,
-        } => end + 1,
-    }
-}
-
-// How far it is up to a place; 0 from there on.
-fn up_to(place: usize, at: usize) -> usize
-    ensures { result ≡ place - at }
-{
-    if at < place { place - at } else { 0 }
-}
-
-// The questions to a sheet that was read from an input of some size: of a whole one the tail's, and then those of planning.
-fn ask(
-    sheet: Sheet,
-    size: usize,
-    initial: &[u16; MOST],
-    goal: &[u16; MOST],
-    lengths: &[u16; MOST],
-    space: &mut [u16],
-) -> Planned
-    requires { Askable sheet }
-    ensures { Asks sheet size initial.now goal.now lengths.now space.old result space.new }
-{
-    match sheet {
-        Sheet::Headless => Planned::Refused {
-            number: 12,
-            place: 0,
-        },
-        Sheet::Long { method } => refused(method, 2, 0),
-        Sheet::Broken { method, before } => refused(method, 12, before),
-        Sheet::Whole {
-            n,
-            method,
-            measured,
-            end,
-        } => {
-            let k = sheets::length_count(measured, n);
-            if size != end {
-                refused(method, 12, (2 * n + k + 1) as u16)
-            } else {
-                let nows: &[u16] = initial;
-                let goals: &[u16] = goal;
-                let measures: &[u16] = lengths;
-                let office = Call {
-                    method,
-                    panel: false,
-                };
-                planner::plan(
-                    office,
-                    Given { lengths: measured },
-                    &nows[..n],
-                    &goals[..n],
-                    &measures[..k],
-                    space,
-                )
-            }
+    let mut entries = Entries::new();
+    match sheets::read_sheet(input, 0, &mut entries) {
+        Ok(whole) => whole.end + 1,
+        Err(Unread::Headless | Unread::Long { .. }) => Kind::Hd.size(),
+        Err(Unread::Broken { before, .. }) => {
+            Kind::Hd.size() + usize::from(before) * Kind::Nw.size()
         }
     }
 }
 
-// A "no" of a question behind the first: question 1 is asked before it.
-fn refused(method: u16, number: u16, place: u16) -> Planned
-    ensures { result ≡ refused_as method number place }
+// The questions to the sheet at the front of the input: of a whole one the tail's, and then those of planning.
+fn ask(input: &[u8], space: &mut [u16]) -> Result<Planned, Refusal>
+    requires { 4 * most ≤ length space.old }
+    ensures { Answered input.now result space.new }
 {
-    let named = planner::method_of(method);
-    match named {
-        Named::By(_) => Planned::Refused { number, place },
-        Named::Unknown => Planned::Refused {
-            number: 1,
-            place: 0,
-        },
+    let mut entries = Entries::new();
+    let Whole {
+        n,
+        method,
+        measured,
+        end,
+    } = sheets::read_sheet(input, 0, &mut entries).map_err(refusal_of)?;
+    let k = sheets::length_count(measured, n);
+    if input.len() != end {
+        let tail = Question::Record.refused_at((2 * n + k + 1) as u16);
+        return Err(refused(method, tail));
+    }
+    let sheet = Sheet {
+        initial: &entries.initial[..n],
+        goal: &entries.goal[..n],
+        lengths: measured.then_some(&entries.lengths[..k]),
+    };
+    let office = Call {
+        method,
+        panel: false,
+    };
+    planner::plan(office, sheet, space)
+}
+
+// Why a sheet that is not whole is refused.
+fn refusal_of(unread: Unread) -> Refusal
+    ensures { result ≡ refusal_of unread }
+{
+    match unread {
+        Unread::Headless => Question::Record.refused(),
+        Unread::Long { method } => refused(method, Question::TooMany.refused()),
+        Unread::Broken { method, before } => refused(method, Question::Record.refused_at(before)),
+    }
+}
+
+// A "no" of a question behind the first: question 1 is asked before it.
+fn refused(method: u16, refusal: Refusal) -> Refusal
+    ensures { result ≡ refused_as method refusal }
+{
+    match Method::try_from(method) {
+        Ok(_) => refusal,
+        Err(first) => first,
     }
 }
 
 // Writes an answer: NO, or PL and the LF records of the pairs.
-fn write_answer(answer: Planned, pairs: &[u16], out: &mut [u8]) -> usize
+fn write_answer(answer: Result<Planned, Refusal>, pairs: &[u16], out: &mut [u8]) -> usize
     requires writable { Writable answer pairs.now }
     requires roomy { Roomy out.old }
     ensures { Wrote (reply_of answer pairs.now) out.old result out.new }
 {
     match answer {
-        Planned::Refused { number, place } => records::put_record(Kind::No, number, place, out, 0),
-        Planned::Made { count, misplaced } => {
+        Ok(Planned { count, misplaced }) => {
             let at = records::put_record(Kind::Pl, count as u16, misplaced as u16, out, 0);
             write_moves(count, pairs, out, at)
+        }
+        Err(Refusal { question, place }) => {
+            records::put_record(Kind::No, question.number(), place, out, 0)
         }
     }
 }
@@ -177,12 +140,10 @@ fn write_moves(count: usize, pairs: &[u16], out: &mut [u8], start: usize) -> usi
     ensures { PutMoves count pairs.now start out.old result out.new }
 {
     let mut at = start;
-    let mut i = 0;
-    while i < count {
+    for i in 0..count {
         let block = pairs[2 * i];
         let support = pairs[2 * i + 1];
         at = records::put_record(Kind::Lf, block, support, out, at);
-        i += 1;
     }
     at
 }

@@ -1,27 +1,22 @@
 -- `wanted` meets its contract: one law for each way out. Assumes nothing.
-use native.Mathlib.Omega.{arith}
 use borrow.Author.Rules.{rules}
-use Rattle.sheets.proofs.PlaceLaws.{size_hd}
-use Rattle.responder.proofs.WantedLaws.{size_le, product_fits, sum_fits, next_fits, headless_way, unknown_way, wanting_way, decided_way}
+use mathlib.Core.Path.{sym, ◌∙◌}
+use Rattle.responder.proofs.WantedLaws.{headless_way, unknown_way, wanting_way, decided_way}
+use Rattle.responder.proofs.wanted.Goals.{then-is_err-via-then-is_err, then-is_err-via-else-is_err+then-decided_by-input}
 use Rattle.responder.proofs.wanted.Goals as goal
 
 pub returns-in_default : goal.returns-in_default
 returns-in_default c = search (rules, headless_way)
 
-pub returns-in_default-named : goal.returns-in_default-named
-returns-in_default-named c = search (rules, unknown_way)
+pub returns-then-is_err : goal.returns-then-is_err
+returns-then-is_err c =
+    elim c.then-is_err.branch [
+      | then-is_err-via-then-is_err w ↦ unknown_way _ c.in-Some.ensures c.try_from.ensures (sym c.is_err.ensures.value ∙ w.if-is_err.true)
+      | then-is_err-via-else-is_err+then-decided_by-input w ↦ decided_way _ c.in-Some.ensures w.decided_by.ensures w.if-decided_by-input.true
+    ]
 
-pub overflow_mul-end-then-input-decided_by : goal.overflow_mul-end-then-input-decided_by
-overflow_mul-end-then-input-decided_by c = record { fits = product_fits (omega arith) (search size_le) }
-
-pub overflow_add-end-then-input-decided_by : goal.overflow_add-end-then-input-decided_by
-overflow_add-end-then-input-decided_by c = record { fits = sum_fits (omega arith) (search size_le) (omega (arith, size_hd)) }
-
-pub overflow_add-end-then-input-decided_by-2 : goal.overflow_add-end-then-input-decided_by-2
-overflow_add-end-then-input-decided_by-2 c = record { fits = next_fits (omega arith) (search size_le) (omega (arith, size_hd)) }
-
-pub returns-then-input-decided_by : goal.returns-then-input-decided_by
-returns-then-input-decided_by c = search (rules, wanting_way)
-
-pub returns-else-input-decided_by : goal.returns-else-input-decided_by
-returns-else-input-decided_by c = search (rules, decided_way)
+pub returns : goal.returns
+returns c =
+    let called = sym c.is_err.ensures.value ∙ c.if-is_err.false in
+    let behind = wanting_way _ c.in-Some.ensures c.try_from.ensures called c.decided_by.ensures c.if-decided_by-input.false in
+    behind c.from-n.ensures c.length_count-k.ensures.0 c.size-2.ensures c.size-3.ensures c.saturating_sub-2.ensures
