@@ -1,9 +1,9 @@
 -- The ways out of `read_head` and `read_sheet`: what is answered, and what the lent lists then hold. Assumes nothing.
-use Prim.Native.Nat.{ℕ, ◌+◌, ◌^◌, ◌≤◌, ◌<◌}
-use mathlib.Core.Path.{◌≡◌, refl, sym, ◌∙◌, ap, ap₂}
+use Prim.Native.Nat.{ℕ, ◌+◌, ◌≤◌, ◌<◌}
+use mathlib.Core.Path.{◌≡◌, sym, ◌∙◌, ap, ap₂}
 use mathlib.Core.List.{List, ◌++◌, append_assoc}
-use mathlib.Core.Bool.{Bool, true, false}
-use Rattle.std.specs.Prelude.{Option, Some, None, Result, Ok, Err}
+use mathlib.Core.Bool.{true, false}
+use Rattle.std.specs.Prelude.{Option, Some, None, Err}
 use Rattle.std.specs.Option.{ok_or}
 use native.Mathlib.Omega.{arith}
 use borrow.Author.Tests.{eq-eqb, ne_eqb}
@@ -24,7 +24,6 @@ use Rattle.sheets.specs.declared.Entries.{Entries}
 use Rattle.sheets.specs.Sheets.{there, head_at, length_count, nows_at, goals_at, lengths_at, end_at, nows, goals, lengths, nows_there, goals_there}
 use Rattle.sheets.specs.Sheets.{Sheet, whole_sheet, behind_goals, body_at, goals_behind, lengths_behind}
 use Rattle.sheets.specs.Reads.{ReadsSheet}
-use Rattle.sheets.proofs.PlaceLaws.{length_count_le}
 use Rattle.sheets.proofs.HeadLaws.{record_head, no_head, headless_sheet, headless_nows, headless_goals, headless_lengths}
 use Rattle.sheets.proofs.HeadLaws.{long_sheet, long_nows, long_goals, long_lengths, small_sheet, small_nows, small_goals, small_lengths}
 use Rattle.sheets.proofs.SheetLaws.{nows_le, goals_le, lengths_le}

@@ -2,12 +2,12 @@
 use Prim.Native.Nat.{ℕ, ◌+◌, ◌≤◌}
 use mathlib.Core.Path.{◌≡◌, refl, sym, ◌∙◌, ap, ap₂, subst}
 use mathlib.Core.Logic.{inl, inr}
-use mathlib.Core.Bool.{Bool, true, false, ◌&&◌, cond}
-use mathlib.Core.List.{List, []}
+use mathlib.Core.Bool.{Bool, cond}
+use mathlib.Core.List.{List}
 use Rattle.std.specs.Prelude.{Option, Some, None, Ok, Err}
 use native.Mathlib.Omega.{arith}
 use borrow.Author.Tests.{eq-eqb}
-use lib.ListN.{length, take, length-take}
+use lib.ListN.{length, take}
 use Rattle.blocks.specs.State.{most}
 use Rattle.lists.specs.Lists.{overwrite}
 use Rattle.lists.proofs.ReflectLaws.{Reflects, holds, fails, eqb_reflects, leb_reflects}
@@ -17,11 +17,10 @@ use Rattle.sheets.specs.declared.Head.{Head}
 use Rattle.sheets.specs.declared.Whole.{Whole}
 use Rattle.sheets.specs.declared.Unread.TheVariants.{Headless, Long, Broken}
 use Rattle.sheets.specs.declared.Entries.{Entries}
-use Rattle.sheets.specs.Sheets.{there, head_at, length_count, nows, goals, lengths, nows_there, goals_there, end_at, Sheet, whole_sheet, body_at, sheet_by, sheet_at}
-use Rattle.sheets.specs.Sheets.{nows_read, goals_behind, goals_read, lengths_behind, lengths_read}
+use Rattle.sheets.specs.Sheets.{there, head_at, length_count, nows, goals, lengths, end_at, Sheet, whole_sheet, body_at, sheet_by, sheet_at}
+use Rattle.sheets.specs.Sheets.{goals_behind, goals_read, lengths_behind, lengths_read}
 use Rattle.sheets.specs.Reads.{ReadsSheet}
 use Rattle.sheets.specs.Cases.{IsLong, RecordMissing, IsBroken, IsWhole, Says}
-use Rattle.sheets.proofs.HeadLaws.{headless_nows, headless_goals, headless_lengths, long_nows, long_goals, long_lengths}
 use Rattle.sheets.proofs.HeadLaws.{small_nows, small_goals, small_lengths}
 
 module _ (bytes : List ℕ) (at : ℕ) where
@@ -33,19 +32,6 @@ module _ (bytes : List ℕ) (at : ℕ) where
 
   pub lengths_le : (n k : ℕ) → length (lengths bytes at n k) ≤ k
   lengths_le n k = length_entries _ bytes _ k
-
-  -- entries that are read where a test passes, no more than c of them
-  some_or_none : (t : Bool) (l : List ℕ) {c : ℕ} → length l ≤ c → length (cond t l []) ≤ c
-  some_or_none true l h = h
-  some_or_none false l h = omega arith
-
-  pub behind_le : (n : ℕ) → length (goals_behind n bytes at) ≤ n
-  unfolding goals_behind
-  behind_le n = some_or_none (nows_there bytes at n) (goals bytes at n) (goals_le n)
-
-  pub lengths_behind_le : (n k : ℕ) → length (lengths_behind n k bytes at) ≤ k
-  unfolding lengths_behind
-  lengths_behind_le n k = some_or_none (nows_there bytes at n && goals_there bytes at n) (lengths bytes at n k) (lengths_le n k)
 
   -- ---- what each case says
 
@@ -141,16 +127,3 @@ module _ {bytes : List ℕ} {at : ℕ} {lent : Entries} {r : Sheet} {lent' : Ent
     whole_lengths =
         let all : lengths_read bytes at ≡ lengths bytes at s.n k = small_lengths bytes at whole.head whole_small ∙ lengths_behind_lem whole in
         front (lengths bytes at s.n k) lent.lengths whole.lengths_there_lem (w.lengths_after ∙ ap (λ l. overwrite l lent.lengths) all)
-
-    -- The list has room for them, and its first n numbers can be lent.
-    pub initial_size : s.n ≡ length (take s.n lent'.initial)
-    initial_size = sym (ap length whole_initial ∙ whole.nows_there_lem)
-
-    pub initial_room : s.n ≤ length lent'.initial
-    initial_room = omega (arith, initial_size, length-take s.n lent'.initial)
-
-    pub goal_size : s.n ≡ length (take s.n lent'.goal)
-    goal_size = sym (ap length whole_goal ∙ whole.goals_there_lem)
-
-    pub goal_room : s.n ≤ length lent'.goal
-    goal_room = omega (arith, goal_size, length-take s.n lent'.goal)

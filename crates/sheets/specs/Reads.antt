@@ -1,8 +1,13 @@
 -- What reading a sheet promises. Assumes nothing.
-use Rattle.std.specs.Prelude.{ℕ, ◌≡◌, List}
+use Rattle.std.specs.Prelude.{ℕ, ◌≡◌, List, replicate}
+use Rattle.blocks.specs.State.{most}
 use Rattle.lists.specs.Lists.{overwrite}
 use Rattle.sheets.specs.declared.Entries.{Entries}
 use Rattle.sheets.specs.Sheets.{Sheet, sheet_at, nows_read, goals_read, lengths_read}
+
+-- Lists for any sheet to which nothing was read.
+unfoldable pub no_entries : Entries
+no_entries = record { initial = replicate most 0; goal = replicate most 0; lengths = replicate most 0 }
 
 -- The sheet at a place is answered; the entries that are read stand at the front of the lent lists, and the rest of these is as it was.
 pub record ReadsSheet (bytes : List ℕ) (at : ℕ) (entries : Entries) (r : Sheet) (entries' : Entries) : Type 0 where

@@ -6,7 +6,7 @@
 ghost use Rattle.std.specs.Prelude.{◌≡◌, ◌≤◌, ◌<◌, ◌^◌};
 ghost use Rattle.blocks.specs.State.{most};
 ghost use Rattle.sheets.specs.Sheets.{head_at, length_count, nows_at, goals_at, lengths_at, end_at};
-ghost use Rattle.sheets.specs.Reads.{ReadsSheet};
+ghost use Rattle.sheets.specs.Reads.{no_entries, ReadsSheet};
 
 use records::{Fields, Kind, Reader};
 use rows::MOST;
@@ -48,7 +48,11 @@ pub struct Entries {
 }
 
 impl Entries {
-    pub fn new() -> Self {
+    // Lists of zeros.
+    #[tactic(auto, unfolding(crate::specs::Reads::no_entries))]
+    pub fn new() -> Self
+        ensures { result ≡ no_entries }
+    {
         Entries {
             initial: [0; MOST],
             goal: [0; MOST],
@@ -132,6 +136,7 @@ pub fn length_count(measured: bool, n: usize) -> usize
 }
 
 // Where the NW records begin, behind a head at a place.
+#[tactic(auto, unfolding(records::specs::Marks::mark_of, records::specs::Marks::marks))]
 fn nows_at(at: usize) -> usize
     requires { at < 2 ^ 63 }
     ensures { result ≡ nows_at at }
@@ -140,6 +145,7 @@ fn nows_at(at: usize) -> usize
 }
 
 // Where the GL records begin.
+#[tactic(auto, unfolding(records::specs::Marks::mark_of, records::specs::Marks::marks))]
 fn goals_at(at: usize, n: usize) -> usize
     requires at_bound { at < 2 ^ 63 }
     requires n_le_most { n ≤ most }
@@ -149,6 +155,7 @@ fn goals_at(at: usize, n: usize) -> usize
 }
 
 // Where the LN records begin.
+#[tactic(auto, unfolding(records::specs::Marks::mark_of, records::specs::Marks::marks))]
 fn lengths_at(at: usize, n: usize) -> usize
     requires at_bound { at < 2 ^ 63 }
     requires n_le_most { n ≤ most }
@@ -158,6 +165,7 @@ fn lengths_at(at: usize, n: usize) -> usize
 }
 
 // Where the sheet ends, behind k LN records.
+#[tactic(auto, unfolding(records::specs::Marks::mark_of, records::specs::Marks::marks))]
 fn end_at(at: usize, n: usize, k: usize) -> usize
     requires at_bound { at < 2 ^ 63 }
     requires n_le_most { (n ≤ most) × (k ≤ most) }
