@@ -14,6 +14,7 @@ use Rattle.blocks.proofs.MeasureLaws.{measure_le, misplaced_le}
 use Rattle.statuses.specs.Modes.{step_of, walksᵇ}
 use Rattle.statuses.specs.Kept.{Kept, Begun}
 use Rattle.statuses.specs.declared.Mode.{Mode}
+use Rattle.statuses.specs.declared.Sets.{Sets}
 use Rattle.choices.specs.Walks.{Unvisited}
 use Rattle.choices.proofs.TrailLaws.{nothing_kept, unvisited_within}
 use Rattle.runs.specs.Runs.{Steppable, Finished}
@@ -24,14 +25,14 @@ pub twice : {s g : State} → Problem s g → measure s g ≤ 2 * length s
 twice {s} {g} p = omega (arith, measure_le s g p.initial, misplaced_le s g)
 
 -- a run that has ended gave its plan within the fuel
-pub run_plan : {m : Mode} {s g : State} {k₀ : ℕ} {out₀ : List ℕ} {k : ℕ} {t : State} {y z : Yard} {out : List ℕ} {f : ℕ}
+pub run_plan : {m : Mode} {s g : State} {k₀ : ℕ} {out₀ : List ℕ} {k : ℕ} {t : State} {y : Yard} {z : Sets} {out : List ℕ} {f : ℕ}
     (w : Finished m s g k₀ out₀ k t y z out) → measure s g ≤ f → iterate (step_of m g) f s ≡ plan w.ran.moves
 run_plan {f = f} w h = running_end (record { end = w.ran.end; reached = w.ran.reached }) w.ended f (omega (arith, w.ran.spent, h))
 
 -- ---- the first run
 
 -- an accepted problem as the check leaves it; no loop has been walked
-pub first_steppable : {m : Mode} {s g t : State} {y y₁ z : Yard} {out : List ℕ} → Bounded s g → Unvisited y → Begun m s g t y y₁ z → 4 * length s ≤ length out
+pub first_steppable : {m : Mode} {s g t : State} {y y₁ : Yard} {z : Sets} {out : List ℕ} → Bounded s g → Unvisited y → Begun m s g t y y₁ z → 4 * length s ≤ length out
     → Steppable m t g y₁ z out 0
 first_steppable p v b room =
     let short = twice p.problem in
@@ -48,18 +49,16 @@ unvisited f w = unvisited_within w (omega arith) (record { none = (f.blank 8 (om
 
 -- ---- runs that do not walk the loop keep the same beside the state
 
-module _ {i j : Mode} (flat : walksᵇ i ≡ false) (flat' : walksᵇ j ≡ false) {s g : State} {y z : Yard} where
+module _ {i j : Mode} (flat : walksᵇ i ≡ false) (flat' : walksᵇ j ≡ false) {s g : State} {y : Yard} {z : Sets} where
   kept_flat : Kept i s g y z → Kept j s g y z
   kept_flat w =
       record {
         known = w.known;
         sets =
             record {
-              sized = w.sets.sized;
               ready = w.sets.ready;
               loose =
                   record {
-                    valid = w.sets.loose.valid;
                     same = λ b h. w.sets.loose.same b h ∙ ap (λ t. cond t (waitingᵇ s g b) (perchedᵇ s g b)) (flat ∙ sym flat');
                   };
             };

@@ -211,9 +211,6 @@ module _ {s g : State} {a x : ℕ} (problem : Problem s g) (move : Moves s g a x
   pub move_within : a - 1 < length g
   move_within = omega (arith, block.low, block.high, problem.same)
 
-  pub move_in : {st : List ℕ} → Stands s g st → a < length st
-  move_in w = omega (arith, block.high, w.room)
-
   -- the rows after the move: the highest blocks in position, and nothing else
   module _ {y : Yard} (sized : Sized y) (small : length s ≤ most) (roots : Bottoms g (goal_bottoms_of y)) where
     block_g : Block g a

@@ -204,12 +204,6 @@ module _ {s : State} {y : Yard} {a x u : ℕ} (w : Shifting s y a x) (e : u ≡ 
   is_old : u ≡ support s a
   is_old = e ∙ sym (support_at s a w.legal.block.low)
 
-  pub old_in : u < length (bottoms_of y)
-  old_in = omega (arith, is_old, w.proper.entries a, w.bottoms.room)
-
-  pub old_fits : Fits w16 u
-  old_fits = record { fits = omega (arith, is_old, w.proper.entries a, w.small) }
-
   module _ {p : ℕ} (f : p ≡ cond (eqb u 0) 0 (get_or (bottoms_of y) u 0)) where
     is_left : p ≡ left w
     is_left = f ∙ rw is_old
