@@ -9,19 +9,19 @@ use Rattle.blocks.specs.State.{State}
 use Rattle.blocks.specs.Stall.{Perched, Moves, clears}
 use Rattle.blocks.specs.Method.{lowest_on_loop}
 use Rattle.blocks.proofs.MethodLaws.{loop_picked}
+use Rattle.std.specs.declared.ops.Range.{Range}
 use Rattle.choices.specs.Visits.{part, LowestIn}
 use Rattle.choices.specs.Walks.{Starts, Walkable, Walked, Unlocked}
-use Rattle.choices.specs.declared.Span.{Span}
 use Rattle.choices.proofs.ChoiceLaws.{counted}
 use Rattle.choices.proofs.SpanLaws.{part_size, part_at}
 use Rattle.choices.proofs.TrailLaws.{trail_place, kept_beside, trail_cut}
 use Rattle.choices.proofs.WalkLaws.{lowest_on_loop_lem}
 
-module _ {y : Yard} {start : ℕ} (w : Walkable y start) {r : Span} {y' : Yard} (a : Walked start r y y') where
+module _ {y : Yard} {start : ℕ} (w : Walkable y start) {r : Range ℕ} {y' : Yard} (a : Walked start r y y') where
   sized : Sized y'
   sized = sized_within w.starts.linked.known.sized a.within
 
-  pub span_within : (r.from < r.to) × (r.to ≤ length (seen_of y'))
+  pub span_within : (r.start < r.end) × (r.end ≤ length (seen_of y'))
   span_within =
       let l = a.loops w.state w.goal w.starts in
       (l.ordered, omega (arith, l.within, w.starts.linked.known.small, sized.rooms 7 (omega arith)))
@@ -29,13 +29,13 @@ module _ {y : Yard} {start : ℕ} (w : Walkable y start) {r : Span} {y' : Yard} 
   module _ {c : ℕ} (h : LowestIn (part (seen_of y') r) c) where
     -- it stands on the walk
     abbrev place : ℕ
-    place = r.from + h.place
+    place = r.start + h.place
 
-    there : (place < r.to) × (get_or (seen_of y') place 0 ≡ c)
+    there : (place < r.end) × (get_or (seen_of y') place 0 ≡ c)
     there =
         let high = span_within.1 in
-        let inside : place < r.to = omega (arith, h.within, part_size (seen_of y') r.from r.to high) in
-        (inside, sym (h.is ∙ part_at (seen_of y') r.from r.to high h.place inside))
+        let inside : place < r.end = omega (arith, h.within, part_size (seen_of y') r.start r.end high) in
+        (inside, sym (h.is ∙ part_at (seen_of y') r.start r.end high h.place inside))
 
     pub low_in : c < row_size
     low_in =

@@ -10,7 +10,7 @@ use lib.ListN.{length, get_or, take, drop, set, length-set}
 use lib.Seq.{get_or-set_same, get_or-set_other, get_or-take, length-take-le, take-add}
 use mir.Syntax.{w16}
 use mir.Val.{Fits}
-use Rattle.rows.specs.Rows.{Yard, Sized, store, stands_of, seen_of, places_of, Within, row_size, row_count}
+use Rattle.rows.specs.Rows.{Yard, Sized, store, stands_of, seen_of, places_of, Within, row_size}
 use Rattle.rows.proofs.RowLaws.{stored, stored_beside, within_none, within_store, sized_within}
 use Rattle.lists.specs.Search.{Lowest}
 use Rattle.lists.proofs.ReflectLaws.{Reflects, holds, fails, eqb_reflects, from_true, same?}
@@ -30,9 +30,9 @@ use Rattle.towers.specs.declared.Blocked.{Blocked}
 use Rattle.towers.proofs.HighLaws.{right_stands}
 use Rattle.problem.specs.Known.{right_in}
 use Rattle.statuses.proofs.BeginLaws.{known_within}
+use Rattle.std.specs.declared.ops.Range.{Range}
 use Rattle.choices.specs.Walks.{Trail, Starts, Walkable, LoopAt, Walked}
 use Rattle.choices.specs.Visits.{part, LowestIn, kept_of, seen_in, last_wrong, resumed_in, visit_in, Resumable}
-use Rattle.choices.specs.declared.Span.{Span}
 use Rattle.choices.proofs.SpanLaws.{part_size, part_at, lowest_block}
 use Rattle.choices.proofs.TrailLaws.{seen_reflects, trail_none, trail_shorter, trail_apart, trail_not, trail_wrong, trail_size}
 
@@ -174,7 +174,7 @@ next {s} {g} {seen} {places} {b} {k} p still v new room place-room =
 
 -- b is among them: the loop stands from its place on
 finish : {s g : State} {seen places : List ℕ} {b k : ℕ} → Problem s g → NoneReady s g → Walking s g seen places b k → seen_in seen places k b ≡ true
-    → k ≤ length seen → LoopAt s g seen (record { from = get_or places b 0; to = k })
+    → k ≤ length seen → LoopAt s g seen (record { start = get_or places b 0; end = k })
 finish {s} {g} {seen} {places} {b} {k} p still v old room = record {
   ordered = below;
   within = trail_size v.trail;
@@ -247,7 +247,6 @@ module _ {y : Yard} {start : ℕ} (w : Walkable y start) where
 
   pub resumable : Resumable y
   resumable = record {
-    rows = w.starts.linked.known.sized.rows;
     kept = omega (arith, kept_in);
     blocks = λ i h. omega (arith, (w.starts.trail.blocks i h).high, w.starts.linked.known.small);
   }
@@ -278,8 +277,8 @@ module _ {start : ℕ} {y₀ : Yard} {b k : ℕ} {y : Yard} (w : Follows start y
   pub count_in : k < row_size
   count_in = omega (arith, trail_size here_is.trail, small)
 
-  pub seeable : (length y ≡ row_count) × (k ≤ row_size) × (b < row_size)
-  seeable = (sized.rows, omega (arith, count_in), block_in)
+  pub seeable : (k ≤ row_size) × (b < row_size)
+  seeable = (omega (arith, count_in), block_in)
 
   pub block_fits : Fits w16 b
   block_fits = record { fits = omega (arith, block_in) }
@@ -291,7 +290,7 @@ module _ {start : ℕ} {y₀ : Yard} {b k : ℕ} {y : Yard} (w : Follows start y
   seen_room = omega (arith, count_in, sized.rooms 7 (omega arith))
 
   module _ {t : Bool} (e : t ≡ seen_in (seen_of y) (places_of y) k b) where
-    pub walked : {r : ℕ} → not t ≡ false → r ≡ get_or (places_of y) b 0 → Walked start (record { from = r; to = k }) y₀ y
+    pub walked : {r : ℕ} → not t ≡ false → r ≡ get_or (places_of y) b 0 → Walked start (record { start = r; end = k }) y₀ y
     walked {r} n h =
         record {
           loops = λ s g q.
@@ -301,45 +300,45 @@ module _ {start : ℕ} {y₀ : Yard} {b k : ℕ} {y : Yard} (w : Follows start y
         }
 
     module _ (n : not t ≡ true) where
-      -- both rows have been written
-      abbrev after : Yard
-      after = store (store y 8 b k) 7 k b
+      -- both rows have been written, b's place as v
+      abbrev after : ℕ → Yard
+      after v = store (store y 8 b v) 7 k b
 
       seen_in_lem : 7 < length (store y 8 b k)
       seen_in_lem = rw length-set (omega (arith, sized.rows))
 
-      after_within : Within 7 9 y₀ after
-      after_within = within_store 7 k b (within_store 8 b k w.within (omega arith) (omega arith)) (omega arith) (omega arith)
+      after_within : (v : ℕ) → Within 7 9 y₀ (after v)
+      after_within v = within_store 7 k b (within_store 8 b v w.within (omega arith) (omega arith)) (omega arith) (omega arith)
 
-      after_seen : seen_of after ≡ set (seen_of y) k b
+      after_seen : seen_of (after k) ≡ set (seen_of y) k b
       after_seen = stored (store y 8 b k) 7 k b seen_in_lem ∙ ap (λ l. set l k b) (stored_beside y 8 b k 7 (λ z. omega arith))
 
-      after_places : places_of after ≡ set (places_of y) b k
+      after_places : places_of (after k) ≡ set (places_of y) b k
       after_places = stored_beside (store y 8 b k) 7 k b 8 (λ z. omega arith) ∙ stored y 8 b k (omega (arith, sized.rows))
 
-      pub findable : Findable after b
-      findable =
+      pub findable : (v : ℕ) → Findable (after v) b
+      findable v =
           record {
             state = w.some.state;
             goal = w.some.goal;
-            linked = linked_within w.some.starts.linked after_within;
+            linked = linked_within w.some.starts.linked (after_within v);
             misplaced = here_is.waiting.0;
           }
 
-      pub follows_next : {r : Blocked} → ((s g : State) → Linked s g after → Misplaced s g b → Found s g b r) → Follows start y₀ r.next (k + 1) after
+      pub follows_next : {r : Blocked} → ((s g : State) → Linked s g (after k) → Misplaced s g b → Found s g b r) → Follows start y₀ r.next (k + 1) (after k)
       follows_next {r} f =
           record {
             some = w.some;
             every = λ s g q.
                 let v = w.every s g q in
                 let one : k + 1 ≡ suc k = omega arith in
-                rw (after_seen, after_places, (f s g (linked_within q.linked after_within) v.waiting.0).next, one)
+                rw (after_seen, after_places, (f s g (linked_within q.linked (after_within k)) v.waiting.0).next, one)
                 (next q.linked.known.problem q.stalled v (sym e ∙ not-true t n) seen_room (omega (arith, block_in, sized.rooms 8 (omega arith))));
-            within = after_within;
+            within = after_within k;
           }
 
 -- the lowest block of that part is the loop's
-pub lowest_on_loop_lem : {s g : State} {seen : List ℕ} {low : ℕ} {r : Span} → Problem s g → NoneReady s g → {b : ℕ} → Misplaced s g b
+pub lowest_on_loop_lem : {s g : State} {seen : List ℕ} {low : ℕ} {r : Range ℕ} → Problem s g → NoneReady s g → {b : ℕ} → Misplaced s g b
     → LoopAt s g seen r → LowestIn (part seen r) low → low ≡ lowest_of s (loop s g)
 lowest_on_loop_lem {s} {g} {seen} {low} {r} p still x w f =
     lowest_block s f (λ i h. misplaced_block p.same (closed.waiting i h).0) ∙ ap (lowest_of s) w.found

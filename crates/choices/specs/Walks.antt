@@ -13,7 +13,7 @@ use Rattle.towers.specs.Linked.{Linked}
 use Rattle.statuses.specs.Modes.{walksᵇ}
 use Rattle.statuses.specs.declared.Mode.{Mode}
 use Rattle.choices.specs.Visits.{part, kept_of}
-use Rattle.choices.specs.declared.Span.{Span}
+use Rattle.std.specs.declared.ops.Range.{Range}
 
 -- The first k blocks seen, each at its place. One that is still misplaced is the successor of the one before it; one that is not has been brought home since
 -- it was seen.
@@ -50,15 +50,15 @@ pub record Walkable (y : Yard) (start : ℕ) : Type 0 where
   pub starts : Starts state goal y start
 
 -- The loop of a problem stands in the row of the blocks seen.
-pub record LoopAt (s g : State) (seen : List ℕ) (r : Span) : Type 0 where
-  pub ordered : r.from < r.to
-  pub within : r.to ≤ length s
+pub record LoopAt (s g : State) (seen : List ℕ) (r : Range ℕ) : Type 0 where
+  pub ordered : r.start < r.end
+  pub within : r.end ≤ length s
   pub found : part seen r ≡ loop s g
 
 -- It has been walked, of whatever problem the rows are, and the blocks seen are a trail; only the rows of the walk have changed.
-pub record Walked (start : ℕ) (r : Span) (y y' : Yard) : Type 0 where
+pub record Walked (start : ℕ) (r : Range ℕ) (y y' : Yard) : Type 0 where
   pub loops : (s g : State) → Starts s g y start → LoopAt s g (seen_of y') r
-  pub trail : (s g : State) → Starts s g y start → Trail s g (seen_of y') (places_of y') r.to
+  pub trail : (s g : State) → Starts s g y start → Trail s g (seen_of y') (places_of y') r.end
   pub within : Within 7 9 y y'
 
 -- The lowest block on the loop is found, of whatever problem the rows are. All that was seen before it is kept, and is true of the state in which it has been

@@ -3,57 +3,45 @@
 #![tactic(auto)]
 
 ghost use Rattle.std.specs.Prelude.{◌≡◌, ◌≤◌, ◌<◌, length};
-ghost use Rattle.rows.specs.Rows.{row_size, row_count, seen_of, places_of};
+ghost use Rattle.rows.specs.Rows.{row_size, seen_of, places_of};
 ghost use Rattle.choices.specs.Choices.{Pickable, Picks};
 ghost use Rattle.choices.specs.Walks.{Walkable, Walked, Unlocked};
-ghost use Rattle.choices.specs.Visits.{part, LowestIn, seen_in, resumed_in, visit_in, Resumable};
+ghost use Rattle.choices.specs.Visits.{LowestIn, seen_in, resumed_in, visit_in, Resumable};
 
 use rows::{PLACES, SEEN, STANDS, Yard};
-use statuses::{LOOSE, Mode, READY, Sets};
+use statuses::{Mode, Sets};
+use std::ops::Range;
 
-// A block and where it goes; block 0 where there is nothing to move.
-#[derive(Drop)]
-pub struct Picked {
+// A move of a block to another, or to the table.
+#[derive(Clone, Copy, Debug, PartialEq, Eq)]
+pub struct Move {
     pub block: usize,
-    pub dest: usize,
+    pub destination: usize,
 }
 
 // The next move of a run: the lowest ready block goes home, and where none is ready a block is put down: the lowest perched one, or the lowest on the loop.
 // Clearing makes no constructive move, and building puts nothing down.
-pub fn pick(mode: Mode, goal: &[u16], yard: &mut Yard, sets: &Sets) -> Picked
+pub fn pick(mode: Mode, goal: &[u16], yard: &mut Yard, sets: &Sets) -> Option<Move>
     requires { Pickable mode goal.now yard.old sets.now }
     ensures { Picks mode goal.now sets.now result yard.old yard.new }
 {
-    if !statuses::builds(mode) {
-        return Picked {
-            block: numberset::lowest(&sets[LOOSE]),
-            dest: 0,
-        };
+    if mode.builds() {
+        if let Some(block) = sets.ready.lowest() {
+            return Some(Move {
+                block,
+                destination: usize::from(goal[block - 1]),
+            });
+        }
     }
-    let b = numberset::lowest(&sets[READY]);
-    if b != 0 {
-        return Picked {
-            block: b,
-            dest: lists::wide(goal[b - 1]),
-        };
+    if !mode.puts_down() {
+        return None;
     }
-    if !statuses::puts_down(mode) {
-        return Picked { block: 0, dest: 0 };
-    }
-    let low = numberset::lowest(&sets[LOOSE]);
-    if !statuses::walks(mode) {
-        return Picked {
-            block: low,
-            dest: 0,
-        };
-    }
-    if low == 0 {
-        return Picked { block: 0, dest: 0 };
-    }
-    Picked {
-        block: unlock(yard, low),
-        dest: 0,
-    }
+    let low = sets.loose.lowest()?;
+    let block = if mode.walks() { unlock(yard, low) } else { low };
+    Some(Move {
+        block,
+        destination: 0,
+    })
 }
 
 // The lowest block on the loop. It is to be put down, so the walk is kept up to it: what was seen before it. The place of the table says how many are kept.
@@ -61,22 +49,15 @@ fn unlock(yard: &mut Yard, start: usize) -> usize
     requires { Walkable yard.old start }
     ensures { Unlocked start result yard.old yard.new }
 {
-    let span = walk(yard, start);
-    let low = lowest_in(&yard[SEEN], span);
+    let part = walk(yard, start);
+    let low = lowest_in(&yard[SEEN][part]);
     yard[PLACES][0] = yard[PLACES][low];
     low
 }
 
-// A part of a list: from an index up to another.
-#[derive(Drop)]
-pub struct Span {
-    pub from: usize,
-    pub to: usize,
-}
-
 // Follows successors from the start until one returns; the loop is the part of the blocks seen from its first visit on. What is kept of the last walk is not
 // walked again.
-pub fn walk(yard: &mut Yard, start: usize) -> Span
+pub fn walk(yard: &mut Yard, start: usize) -> Range<usize>
     requires { Walkable yard.old start }
     ensures { Walked start result yard.old yard.new }
 {
@@ -88,25 +69,21 @@ pub fn walk(yard: &mut Yard, start: usize) -> Span
         k += 1;
         b = towers::find(yard, b).next;
     }
-    Span {
-        from: lists::wide(yard[PLACES][b]),
-        to: k,
-    }
+    usize::from(yard[PLACES][b])..k
 }
 
 // How many blocks this walk passes over: none where the last one began at another block. Of those kept, the ones that have been brought home since are the
 // last; the walk goes on at the block before them.
+#[tactic(auto, unfolding(crate::specs::Visits::resumed_in))]
 fn resumed(yard: &Yard, start: usize) -> usize
     requires { Resumable yard.now }
     ensures { result ≡ resumed_in yard.now start }
 {
-    if lists::wide(yard[SEEN][0]) != start {
+    if usize::from(yard[SEEN][0]) != start {
         return 0;
     }
-    let mut k = lists::wide(yard[PLACES][0]);
-    while k > 0 {
-        k -= 1;
-        if !problem::in_position(&yard[STANDS], lists::wide(yard[SEEN][k])) {
+    for k in (0..usize::from(yard[PLACES][0])).rev() {
+        if !problem::in_position(&yard[STANDS], usize::from(yard[SEEN][k])) {
             return k;
         }
     }
@@ -114,40 +91,36 @@ fn resumed(yard: &Yard, start: usize) -> usize
 }
 
 // The block at which the walk then stands.
+#[tactic(auto, unfolding(crate::specs::Visits::visit_in))]
 fn visit(yard: &Yard, start: usize, k: usize) -> usize
-    requires { (length yard.now ≡ row_count) × (k < row_size) }
+    requires { k < row_size }
     ensures { result ≡ visit_in yard.now start k }
 {
     if k == 0 {
-        return start;
+        start
+    } else {
+        usize::from(yard[SEEN][k])
     }
-    lists::wide(yard[SEEN][k])
 }
 
 // Whether b is among the first k blocks seen.
+#[tactic(auto, unfolding(crate::specs::Visits::seen_in))]
 fn is_seen(yard: &Yard, k: usize, b: usize) -> bool
-    requires { (length yard.now ≡ row_count) × (k ≤ row_size) × (b < row_size) }
+    requires { (k ≤ row_size) × (b < row_size) }
     ensures { result ≡ seen_in (seen_of yard.now) (places_of yard.now) k b }
 {
-    let i = lists::wide(yard[PLACES][b]);
-    if i >= k {
-        return false;
-    }
-    lists::wide(yard[SEEN][i]) == b
+    let i = usize::from(yard[PLACES][b]);
+    i < k && usize::from(yard[SEEN][i]) == b
 }
 
-// The lowest block of a part of the list. From behind, for speed: a walk comes to know the part's end before its start.
-pub fn lowest_in(seen: &[u16], span: Span) -> usize
-    requires { (span.from < span.to) × (span.to ≤ length seen.now) }
-    ensures { LowestIn (part seen.now span) result }
+// The lowest of some blocks.
+pub fn lowest_in(blocks: &[u16]) -> usize
+    requires { 0 < length blocks.now }
+    ensures { LowestIn blocks.now result }
 {
-    let from = span.from;
-    let to = span.to;
-    let mut i = to - 1;
-    let mut low = lists::wide(seen[i]);
-    while i > from {
-        i -= 1;
-        low = lists::least(low, lists::wide(seen[i]));
+    let mut low = blocks[0];
+    for &b in blocks {
+        low = low.min(b);
     }
-    low
+    usize::from(low)
 }

@@ -9,7 +9,6 @@ use lib.ListN.{get_or}
 use Rattle.counts.specs.Ways.{ways, held}
 use Rattle.counts.specs.Table.{place, EvenCounts}
 use Rattle.counts.proofs.WaysLaws.{ways_step, ways_most}
-use Rattle.counts.proofs.TableLaws.{place_below}
 
 module _ (n k : ℕ) where
   -- the even number at n or just below it
@@ -21,28 +20,12 @@ module _ (n k : ℕ) where
   at = place (n / 2) k
 
   module _ (h : n + k ≤ held) where
-    pub at_below : at < 81
-    at_below = place_below (n / 2) k (omega arith)
-
-    -- the next place, and its offset in bytes
-    pub next_fits : at + 1 < 2 ^ 64
-    next_fits = omega (arith, at_below)
-
-    pub offset_fits : (at + 1) * 8 < 2 ^ 64
-    offset_fits = omega (arith, at_below)
-
-    pub next_below : n % 2 ≢ 0 → at + 1 < 81
-    next_below o = omega (arith, place_below (n / 2) (k + 1) (omega (arith, o)))
-
     pub others_most : even + k ≤ held
     others_most = omega arith
 
     module _ (table : List ℕ) (t : EvenCounts table) where
       here : get_or table at 0 ≡ ways even k
       here = t.each (n / 2) k (omega arith)
-
-      pub even_count : n % 2 ≡ 0 → get_or table at 0 ≡ ways n k
-      even_count e = here ∙ ap (λ m. ways m k) (let i : even ≡ n = omega arith in i)
 
       module _ (o : n % 2 ≢ 0) where
         next : get_or table (at + 1) 0 ≡ ways even (k + 1)

@@ -5,16 +5,20 @@ use mathlib.Core.Bool.{false}
 use mathlib.Core.List.{List}
 use native.Mathlib.Omega.{arith}
 use lib.ListN.{length}
-use Rattle.lists.specs.Search.{lowest}
-use Rattle.rows.specs.Rows.{Yard, loose_of}
+use Rattle.std.specs.Prelude.{Option, None}
+use Rattle.lists.specs.Search.{lowest, nonzero}
+use Rattle.lists.proofs.NonzeroLaws.{none_zero}
+use Rattle.rows.specs.Rows.{Yard}
 use Rattle.blocks.specs.State.{State, most}
 use Rattle.blocks.specs.Position.{Problem}
 use Rattle.blocks.specs.Stall.{NoneReady}
 use Rattle.blocks.specs.Method.{stop, to_goal, end_of, lowest_ready, building, built, deadlock_loop, deadlock_rows}
 use Rattle.blocks.proofs.StepLaws.{ready_none}
 use Rattle.blocks.proofs.MethodLaws.{enough}
-use Rattle.numberset.specs.Members.{member, Valid, highest}
-use Rattle.statuses.specs.Kept.{Fittable, Beginnable, Begun}
+use Rattle.numberset.specs.Members.{member, highest}
+use Rattle.towers.specs.Linked.{Known}
+use Rattle.statuses.specs.Kept.{Beginnable, Begun}
+use Rattle.statuses.specs.declared.Sets.{Sets}
 use Rattle.statuses.specs.declared.Mode.TheVariants.{Building, Gn2}
 use Rattle.choices.proofs.TrailLaws.{visits_within}
 use Rattle.choices.proofs.PickLaws as pick
@@ -33,20 +37,20 @@ none_ready {s} {g} p e = ready_none p (by (lowest_ready s g) e)
     by zero f = refl
     by (suc i) f = let z : ◌≡◌ {A = ℕ} 0 1 = cc in absurd (omega arith)
 
--- ---- the steps of `seek`
+-- ---- the steps of `test`
 
 module _ {s g : State} {y : Yard} {out : List ℕ} (w : Seekable s g y out) where
   whole : Problem s g
   whole = w.problem.problem
 
-  pub may_begin : {cur : List ℕ} {z : Yard} → length cur ≡ length s → length z ≡ 2 → Beginnable s g cur y z
-  may_begin e h = record { problem = w.problem; state_size = e; sized = w.sized; start = w.start; sets = h }
+  pub may_begin : {cur : List ℕ} → length cur ≡ length s → Beginnable s g cur y
+  may_begin e = record { problem = w.problem; state_size = e; sized = w.sized; start = w.start }
 
-  module _ {cur : List ℕ} {y₁ z₁ : Yard} (b : Begun Building s g cur y y₁ z₁) where
+  module _ {cur : List ℕ} {y₁ : Yard} {z₁ : Sets} (b : Begun Building s g cur y y₁ z₁) where
     pub first_steppable : {moves : List ℕ} → 4 * most ≤ length moves → Steppable Building cur g y₁ z₁ moves 0
     first_steppable h = lent.first_steppable w.problem w.visits b (omega (arith, w.problem.small, h))
 
-    module _ {moves : List ℕ} {k : ℕ} {t : State} {y₂ z₂ : Yard} {moves₂ : List ℕ} (f : Finished Building cur g 0 moves k t y₂ z₂ moves₂) where
+    module _ {moves : List ℕ} {k : ℕ} {t : State} {y₂ : Yard} {z₂ : Sets} {moves₂ : List ℕ} (f : Finished Building cur g 0 moves k t y₂ z₂ moves₂) where
       first : Finished Building s g 0 moves k t y₂ z₂ moves₂
       first = rw b.state at f
 
@@ -57,27 +61,27 @@ module _ {s g : State} {y : Yard} {out : List ℕ} (w : Seekable s g y out) wher
       still : NoneReady t g
       still = none_ready f.ran.kept.known.problem f.ended
 
-      pub loose_may : Valid (loose_of z₂) × (member (loose_of z₂) 0 ≡ false)
+      pub loose_may : member z₂.loose 0 ≡ false
       loose_may = pick.loose_may f.ran.kept
 
-      pub sought : {r : ℕ} {out' : List ℕ} → Looked t g out r out' → Sought s g out r out'
+      pub sought : {r : Option ℕ} {out' : List ℕ} → Looked t g out r out' → Sought s g out r out'
       unfolding deadlock_loop deadlock_rows
       sought {r} {out'} v = let u = subst (λ i. Looked i g out r out') is_built v in record { count = u.count; written = u.written }
 
       -- nothing is perched and nothing ready, so nothing is misplaced
-      pub clean_way : {low : ℕ} → low ≡ lowest (member (loose_of z₂)) highest → low ≡ 0 → Sought s g out 0 out
-      clean_way e q = sought (nothing out (pick.perched_clean f.ran.kept refl still e q))
+      pub clean_way : None ≡ nonzero (lowest (member z₂.loose) highest) → Sought s g out None out
+      clean_way e = sought (nothing out (pick.perched_clean f.ran.kept refl still refl (none_zero (lowest (member z₂.loose) highest) (sym e))))
 
       -- the towers are filled, and the sets anew
-      pub refittable : Fittable t g y₂ z₂
-      refittable = record { known = f.ran.kept.known; sized = f.ran.kept.sets.sized }
+      pub refittable : Known t g y₂
+      refittable = f.ran.kept.known
 
-      module _ (same : length t ≡ length s) {y₃ z₃ : Yard} (q : Begun Gn2 t g t y₂ y₃ z₃) where
+      module _ (same : length t ≡ length s) {y₃ : Yard} {z₃ : Sets} (q : Begun Gn2 t g t y₂ y₃ z₃) where
         looks : Looks t g y₃ z₃
         looks = record { kept = q.kept; stalled = still; trail = (visits_within q.within f.ran.visits).trail }
 
         pub lookable : Lookable y₃ z₃ out
         lookable = record { state = t; goal = g; looks = looks; room = omega (arith, w.room, same) }
 
-        pub look_way : {r : ℕ} {out' : List ℕ} → ((i h : State) → Looks i h y₃ z₃ → Looked i h out r out') → Sought s g out r out'
+        pub look_way : {r : Option ℕ} {out' : List ℕ} → ((i h : State) → Looks i h y₃ z₃ → Looked i h out r out') → Sought s g out r out'
         look_way v = sought (v t g looks)

@@ -13,6 +13,7 @@ use Rattle.problem.specs.Known.{AtStart}
 use Rattle.towers.specs.Linked.{Linked}
 use Rattle.statuses.specs.Kept.{Kept}
 use Rattle.statuses.specs.declared.Mode.TheVariants.{Gn2}
+use Rattle.statuses.specs.declared.Sets.{Sets}
 use Rattle.choices.specs.Walks.{KeptTrail, Unvisited}
 
 -- A list after the k-th row of three numbers was written.
@@ -39,13 +40,13 @@ abbrev pub loop_of : State → State → List ℕ
 loop_of s g = cond (eqb (misplaced_count s g) 0) [] (onward s (loop s g))
 
 -- The yard is of a state in which no block is ready, and what is kept of a walk is true of it.
-pub record Looks (s g : State) (y z : Yard) : Type 0 where
+pub record Looks (s g : State) (y : Yard) (z : Sets) : Type 0 where
   pub kept : Kept Gn2 s g y z
   pub stalled : NoneReady s g
   pub trail : KeptTrail s g y
 
 -- It is of some such state, and there is space for a row of each block.
-pub record Lookable (y z : Yard) (out : List ℕ) : Type 0 where
+pub record Lookable (y : Yard) (z : Sets) (out : List ℕ) : Type 0 where
   pub state : State
   pub goal : State
   pub looks : Looks state goal y z

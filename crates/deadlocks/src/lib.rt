@@ -56,9 +56,9 @@ fn look(yard: &mut Yard, sets: &Sets, out: &mut [u16]) -> Option<usize>
     ensures { (s g : State) → Looks s g yard.old sets.now → Looked s g out.old result out.new }
 {
     let start = sets.loose.lowest()?;
-    let span = choices::walk(yard, start);
-    let count = span.to - span.from;
-    let low = choices::lowest_in(&yard[SEEN][span.from..span.to]);
+    let part = choices::walk(yard, start);
+    let count = part.end - part.start;
+    let low = choices::lowest_in(&yard[SEEN][part]);
     show(yard, out, low, count);
     Some(count)
 }

@@ -5,9 +5,9 @@
 ghost use Rattle.std.specs.Prelude.{◌≡◌};
 ghost use Rattle.generator.specs.Shifts.{next_seed};
 
-// C lends it too.
+// `#[repr(C)]`: C lends it too.
 #[repr(C)]
-#[derive(Clone, Copy)]
+#[derive(Clone, Copy, Debug, PartialEq, Eq)]
 pub struct Generator {
     pub seed: u64,
 }
@@ -17,9 +17,8 @@ impl Generator {
     pub fn next(self) -> Generator
         ensures { result.seed ≡ next_seed self.seed }
     {
-        let seed = self.seed;
         Generator {
-            seed: next_seed(seed),
+            seed: next_seed(self.seed),
         }
     }
 

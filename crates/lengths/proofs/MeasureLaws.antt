@@ -14,7 +14,7 @@ use lib.ListN.{length, get_or}
 use mir.Syntax.{w16}
 use mir.Val.{Fits}
 use Rattle.lists.proofs.ReflectLaws.{reflects_same, reflects_not, leb_reflects, ltb_reflects}
-use Rattle.lists.proofs.ScanLaws.{Scanned, scan_begin, scan_next, scan_found, scan_none}
+use Rattle.lists.proofs.ScanLaws.{Scanned, scan_next, scan_found, scan_none}
 use Rattle.lists.specs.Search.{nonzero}
 use Rattle.blocks.specs.State.{State, support}
 use Rattle.blocks.specs.Position.{Bounded}
@@ -47,9 +47,6 @@ pub record Resting (s : State) (l : List ℕ) (n i : ℕ) : Type 0 where
   pub known : Measurable s l
   pub all : n ≡ length s
   pub scanned : Scanned (overhangsᵇ l s) (length s) i
-
-pub resting_begin : {s : State} {l : List ℕ} {n : ℕ} → Measurable s l → n ≡ length s → Resting s l n 0
-resting_begin {s} {l} w e = record { known = w; all = e; scanned = scan_begin (overhangsᵇ l s) (length s) }
 
 -- every support has a length
 pub support_within : {s : State} {l : List ℕ} {x : ℕ} → Measurable s l → (i : ℕ) → x ≡ get_or s i 0 → x ≤ length l

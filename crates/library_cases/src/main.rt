@@ -10,294 +10,236 @@
 
 #![tactic(auto)]
 
-ghost use Rattle.std.specs.Prelude.{◌≤◌, ◌<◌, length};
-
-use deadlocks::{Tested, WIDTH};
-use lengths::Given;
+use deadlocks::WIDTH;
+use lengths::Sheet;
 use planner::{Call, Planned};
-use problem::Checked;
+use refusals::Refusal;
 use std::io;
 use std::io::{Read, Stdin};
-use validator::Replayed;
-
-// Sheets without lengths.
-const PLAIN: Given = Given { lengths: false };
+use validator::Verdict;
 
 // What a refused replay has in place of a verdict.
 const NO_VERDICT: u16 = 65535;
 
-fn main(rt: HostRuntime) -> io::Result<()> {
-    let mut nums = [0u16; 28002];
-    let mut space = [0u16; 16384];
-    let mut chunk = [0u8; 16384];
-    run(&rt, &mut nums, &mut space, &mut chunk)
+// How many of the pairs or rows at the front of the lent space are told.
+const TOLD: usize = 16;
+
+// How many numbers the lists of a frame have at most, how many the lent space has, and how many are read at a time.
+const NUMS: usize = 28002;
+
+const SPACE: usize = 16384;
+
+const READ: usize = 8192;
+
+// What a frame is read into, what is lent, and the bytes that are read at a time.
+#[derive(Drop)]
+struct Room {
+    nums: [u16; NUMS],
+    space: [u16; SPACE],
+    chunk: [u8; 2 * READ],
 }
 
-// Nothing says that the input ends, so the loop counts its turns down, from a number that no run uses up.
-fn run(rt: &HostRuntime, nums: &mut [u16], space: &mut [u16], chunk: &mut [u8]) -> io::Result<()> {
-    let mut turns = u64::MAX;
-    while turns > 0 && turn(rt, nums, space, chunk)? {
-        turns -= 1;
+#[derive(Clone, Copy, Debug, PartialEq, Eq)]
+enum Operation {
+    Check,
+    Replay,
+    Plan,
+    Deadlock,
+}
+
+impl Operation {
+    fn numbered(number: u16) -> Option<Self> {
+        match number {
+            1 => Some(Operation::Check),
+            2 => Some(Operation::Replay),
+            3 => Some(Operation::Plan),
+            4 => Some(Operation::Deadlock),
+            _ => None,
+        }
+    }
+}
+
+// What a frame holds: an operation, a sheet without lengths, and the third list.
+#[derive(Clone, Copy)]
+struct Case<'a> {
+    operation: Operation,
+    sheet: Sheet<'a>,
+    third: &'a [u16],
+}
+
+fn main(rt: HostRuntime) -> io::Result<()> {
+    let mut room = Room {
+        nums: [0; NUMS],
+        space: [0; SPACE],
+        chunk: [0; 2 * READ],
+    };
+    run(&rt, &mut room)
+}
+
+// Nothing says that the input ends, so the turns are counted, up to a number that no run uses up.
+fn run(rt: &HostRuntime, room: &mut Room) -> io::Result<()> {
+    let mut stdin = rt.stdin();
+    for _ in 0..u64::MAX {
+        let Some(case) = read_case(&mut stdin, &mut room.nums, &mut room.chunk) else {
+            break;
+        };
+        if !answer(rt, case, &mut room.space)? {
+            break;
+        }
     }
     Ok(())
 }
 
-// Reads a frame and answers it; false where there is none to answer.
-fn turn(
-    rt: &HostRuntime,
-    nums: &mut [u16],
-    space: &mut [u16],
-    chunk: &mut [u8],
-) -> io::Result<bool> {
-    let mut stdin = rt.stdin();
-    let mut head = [0u8; 8];
-    if stdin.read_exact(&mut head).is_err() {
-        return Ok(false);
-    }
-    let operation = number(head[0], head[1]);
-    let a = number(head[2], head[3]);
-    let b = a + number(head[4], head[5]);
-    let c = b + number(head[6], head[7]);
-    if nums.len() < c {
-        return Ok(false);
-    }
-    if !fill(&mut stdin, &mut nums[0..c], chunk) {
-        return Ok(false);
-    }
-    answer(rt, operation, nums, space, a, b, c)
+// Reads a frame; none where the input ends, or the frame is cut short, too long or of another operation.
+fn read_case<'a>(
+    stdin: &mut Stdin,
+    nums: &'a mut [u16],
+    chunk: &mut [u8; 2 * READ],
+) -> Option<Case<'a>> {
+    let mut bytes = [0; 8];
+    stdin.read_exact(&mut bytes).ok()?;
+    let mut head = [0; 4];
+    unpack(&bytes, &mut head);
+    let [operation, initial, goal, third] = head;
+    let operation = Operation::numbered(operation)?;
+    let initial = usize::from(initial);
+    let goal = usize::from(goal);
+    let third = usize::from(third);
+    let nums = nums.get_mut(..initial + goal + third)?;
+    fill(stdin, nums, chunk).ok()?;
+    let (initial, others) = nums.split_at(initial);
+    let (goal, third) = others.split_at(goal);
+    Some(Case {
+        operation,
+        sheet: Sheet {
+            initial,
+            goal,
+            lengths: None,
+        },
+        third,
+    })
 }
 
-// Reads as many numbers as `nums` holds; false where the input ends before.
-fn fill(stdin: &mut Stdin, nums: &mut [u16], chunk: &mut [u8]) -> bool {
-    let mut at = 0;
-    while at < nums.len() {
-        let more = fill_some(stdin, &mut nums[at..], chunk);
-        if more == 0 {
-            return false;
-        }
-        at += more;
+// Reads as many numbers as `nums` holds.
+fn fill(stdin: &mut Stdin, nums: &mut [u16], chunk: &mut [u8; 2 * READ]) -> io::Result<()> {
+    for part in nums.chunks_mut(READ) {
+        let bytes = &mut chunk[..2 * part.len()];
+        stdin.read_exact(bytes)?;
+        unpack(bytes, part);
     }
-    true
-}
-
-// Reads numbers to the front of `nums`, as many as `nums` and `chunk` hold, and answers how many; 0 where the input ends before.
-fn fill_some(stdin: &mut Stdin, nums: &mut [u16], chunk: &mut [u8]) -> usize
-    ensures { result ≤ length nums.old }
-{
-    let k = least(nums.len(), chunk.len() / 2);
-    if stdin.read_exact(&mut chunk[0..2 * k]).is_err() {
-        return 0;
-    }
-    unpack(chunk, &mut nums[0..k]);
-    k
+    Ok(())
 }
 
 // Makes numbers of the bytes, until either list ends.
 fn unpack(bytes: &[u8], nums: &mut [u16]) {
-    let n = least(nums.len(), bytes.len() / 2);
-    let mut i = 0;
-    while i < n {
-        nums[i] = number(bytes[2 * i], bytes[2 * i + 1]) as u16;
-        i += 1;
+    let (pairs, _) = bytes.as_chunks();
+    for (number, pair) in nums.iter_mut().zip(pairs) {
+        *number = u16::from_be_bytes(*pair);
     }
 }
 
-// Runs one case, its lists in `nums` up to a, b and c; false where there is no such operation.
-fn answer(
-    rt: &HostRuntime,
-    operation: usize,
-    nums: &[u16],
-    space: &mut [u16],
-    a: usize,
-    b: usize,
-    c: usize,
-) -> io::Result<bool>
-    requires { (a ≤ b) × (b ≤ c) × (c ≤ length nums.now) }
-{
-    if operation == 1 {
-        let checked = lengths::check(PLAIN, &nums[0..a], &nums[a..b], &nums[0..0]);
-        tell_checked(rt, checked)?;
-        return Ok(true);
+// Runs a case and tells its answer; false where its space is longer than what can be lent.
+fn answer(rt: &HostRuntime, case: Case, space: &mut [u16]) -> io::Result<bool> {
+    match case.operation {
+        Operation::Check => tell_checked(rt, lengths::check(case.sheet))?,
+        Operation::Replay => tell_replayed(rt, validator::validate(case.sheet, case.third))?,
+        Operation::Plan => {
+            let Some((method, space)) = lend(case.third, space) else {
+                return Ok(false);
+            };
+            let office = Call {
+                method,
+                panel: false,
+            };
+            let planned = planner::plan(office, case.sheet, space);
+            tell_planned(rt, planned, space)?;
+        }
+        Operation::Deadlock => {
+            let Some((_, space)) = lend(case.third, space) else {
+                return Ok(false);
+            };
+            let tested = deadlocks::deadlock(case.sheet, space);
+            tell_tested(rt, tested, space)?;
+        }
     }
-    if operation == 2 {
-        let replayed = validator::validate(
-            PLAIN,
-            &nums[0..a],
-            &nums[a..b],
-            &nums[0..0],
-            &nums[b..c],
-        );
-        tell_replayed(rt, replayed)?;
-        return Ok(true);
-    }
-    if c - b != 2 {
-        return Ok(false);
-    }
-    let size = lists::wide(nums[b + 1]);
-    if space.len() < size {
-        return Ok(false);
-    }
-    answer_in(
-        rt,
-        operation,
-        nums[b],
-        &nums[0..a],
-        &nums[a..b],
-        &mut space[0..size],
-    )
+    Ok(true)
 }
 
-// Runs one case of an operation with lent space; false where there is no such operation.
-fn answer_in(
-    rt: &HostRuntime,
-    operation: usize,
-    method: u16,
-    initial: &[u16],
-    goal: &[u16],
-    space: &mut [u16],
-) -> io::Result<bool> {
+// The method and the space that a third list asks for, painted; none where it is no such list, or asks for too much.
+fn lend<'a>(third: &[u16], space: &'a mut [u16]) -> Option<(u16, &'a mut [u16])> {
+    let [method, size] = *third else {
+        return None;
+    };
+    let space = space.get_mut(..usize::from(size))?;
     paint(space);
-    if operation == 3 {
-        let office = Call {
-            method,
-            panel: false,
-        };
-        let planned = planner::plan(office, PLAIN, initial, goal, &initial[0..0], space);
-        tell_planned(rt, planned, space)?;
-        return Ok(true);
-    }
-    if operation == 4 {
-        let tested = deadlocks::deadlock(PLAIN, initial, goal, &initial[0..0], space);
-        tell_tested(rt, tested, space)?;
-        return Ok(true);
-    }
-    Ok(false)
+    Some((method, space))
 }
 
 // What the lent space holds before.
 fn paint(space: &mut [u16]) {
-    let n = least(space.len(), 65535);
-    let mut i = 0;
-    while i < n {
-        space[i] = (65535 - i) as u16;
-        i += 1;
+    for (number, filler) in space.iter_mut().zip((1..=u16::MAX).rev()) {
+        *number = filler;
     }
 }
 
-fn tell_checked(rt: &HostRuntime, checked: Checked) -> io::Result<()> {
+fn tell_checked(rt: &HostRuntime, checked: Result<(), Refusal>) -> io::Result<()> {
     match checked {
-        Checked::Accepted => tell_two(rt, 0, 0)?,
-        Checked::Refused { number, place } => tell_two(rt, number, place)?,
+        Ok(()) => println!(rt; "0 0"),
+        Err(refusal) => println!(rt; "{} {}", refusal.question.number(), refusal.place),
     }
-    tell_end(rt)
 }
 
-fn tell_replayed(rt: &HostRuntime, replayed: Replayed) -> io::Result<()> {
+fn tell_replayed(rt: &HostRuntime, replayed: Result<Verdict, Refusal>) -> io::Result<()> {
     match replayed {
-        Replayed::Refused { number, place } => {
-            tell_three(rt, number, NO_VERDICT, place as usize)?
+        Ok(verdict) => println!(rt; "0 {} {}", verdict.number(), verdict.place()),
+        Err(refusal) => {
+            println!(rt;
+                "{} {NO_VERDICT} {}",
+                refusal.question.number(),
+                refusal.place
+            )
         }
-        Replayed::Judged { verdict, place } => tell_three(rt, 0, verdict, place)?,
-    }
-    tell_end(rt)
-}
-
-fn tell_planned(rt: &HostRuntime, planned: Planned, space: &[u16]) -> io::Result<()> {
-    match planned {
-        Planned::Refused { number, place } => tell_plan(rt, number, place, 0, 0, space),
-        Planned::Made { count, misplaced } => tell_plan(rt, 0, 0, count, misplaced, space),
     }
 }
 
-fn tell_plan(
+fn tell_planned(
     rt: &HostRuntime,
-    number: u16,
-    place: u16,
-    count: usize,
-    misplaced: usize,
+    planned: Result<Planned, Refusal>,
     space: &[u16],
 ) -> io::Result<()> {
-    tell_three(rt, number, place, count)?;
-    tell_more(rt, misplaced)?;
-    tell_space(rt, space, 2 * least(count, 16))?;
-    tell_end(rt)
+    let (number, place, count, misplaced) = match planned {
+        Ok(plan) => (0, 0, plan.count, plan.misplaced),
+        Err(refusal) => (refusal.question.number(), refusal.place, 0, 0),
+    };
+    print!(rt; "{number} {place} {count} {misplaced}")?;
+    tell_space(rt, space, 2 * count.min(TOLD))
 }
 
-fn tell_tested(rt: &HostRuntime, tested: Tested, space: &[u16]) -> io::Result<()> {
-    match tested {
-        Tested::Refused { number, place } => tell_test(rt, number, place, 0, space),
-        Tested::Free => tell_test(rt, 0, 0, 0, space),
-        Tested::Deadlocked { count } => tell_test(rt, 0, 0, count, space),
-    }
-}
-
-fn tell_test(
+fn tell_tested(
     rt: &HostRuntime,
-    number: u16,
-    place: u16,
-    count: usize,
+    tested: Result<Option<usize>, Refusal>,
     space: &[u16],
 ) -> io::Result<()> {
-    tell_three(rt, number, place, count)?;
-    tell_space(rt, space, WIDTH * least(count, 16))?;
-    tell_end(rt)
+    let (number, place, count) = match tested {
+        Ok(count) => (0, 0, count.unwrap_or(0)),
+        Err(refusal) => (refusal.question.number(), refusal.place, 0),
+    };
+    print!(rt; "{number} {place} {count}")?;
+    tell_space(rt, space, WIDTH * count.min(TOLD))
 }
 
 // The checksum of the space, and so many numbers at its front.
 fn tell_space(rt: &HostRuntime, space: &[u16], shown: usize) -> io::Result<()> {
-    tell_more(rt, checksum(space))?;
-    let end = least(shown, space.len());
-    let mut i = 0;
-    while i < end {
-        tell_more(rt, lists::wide(space[i]))?;
-        i += 1;
+    print!(rt; " {}", checksum(space))?;
+    for number in space.iter().take(shown) {
+        print!(rt; " {number}")?;
     }
-    Ok(())
-}
-
-// The value at 65599 of the polynomial with these coefficients, the highest first, modulo the largest prime below 2^32.
-fn checksum(nums: &[u16]) -> usize {
-    let mut sum = 0;
-    let mut i = 0;
-    while i < nums.len() {
-        sum = mixed(sum, nums[i]);
-        i += 1;
-    }
-    sum
-}
-
-fn mixed(sum: usize, number: u16) -> usize
-    requires { sum < 4294967291 }
-    ensures { result < 4294967291 }
-{
-    (sum * 65599 + number as usize) % 4294967291
-}
-
-fn tell_two(rt: &HostRuntime, first: u16, second: u16) -> io::Result<()> {
-    print!(rt; "{first} {second}")
-}
-
-fn tell_three(rt: &HostRuntime, first: u16, second: u16, third: usize) -> io::Result<()> {
-    tell_two(rt, first, second)?;
-    tell_more(rt, third)
-}
-
-fn tell_more(rt: &HostRuntime, number: usize) -> io::Result<()> {
-    print!(rt; " {number}")
-}
-
-fn tell_end(rt: &HostRuntime) -> io::Result<()> {
     println!(rt)
 }
 
-fn number(high: u8, low: u8) -> usize
-    ensures { result < 65536 }
-{
-    high as usize * 256 + low as usize
-}
-
-fn least(x: usize, y: usize) -> usize
-    ensures { (result ≤ x) × (result ≤ y) }
-{
-    if x < y { x } else { y }
+// The value at 65599 of the polynomial with these coefficients, the highest first, modulo the largest prime below 2^32.
+fn checksum(nums: &[u16]) -> u32 {
+    nums.iter().fold(0, |sum: u32, number| {
+        ((u64::from(sum) * 65599 + u64::from(*number)) % 4294967291) as u32
+    })
 }

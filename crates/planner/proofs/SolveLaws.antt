@@ -2,10 +2,9 @@
 -- Assumes nothing.
 use Prim.Native.Nat.{ℕ, ◌*◌, ◌≤◌}
 use mathlib.Core.Path.{◌≡◌, refl, sym, ap, ap₂, ◌∙◌}
-use mathlib.Core.Bool.{Bool, true, false, not, true≢false}
+use mathlib.Core.Bool.{true, false, true≢false}
 use mathlib.Core.List.{List, ◌++◌}
 use native.Mathlib.Omega.{arith}
-use borrow.Author.Tests.{not-true, not-false}
 use lib.ListN.{length, length-append}
 use lib.Seq.{sets}
 use Rattle.lists.specs.Lists.{overwrite}
@@ -25,6 +24,7 @@ use Rattle.problem.proofs.CountLaws.{misplaced_in_lem}
 use Rattle.statuses.specs.Modes.{step_of, walksᵇ}
 use Rattle.statuses.specs.Kept.{Beginnable, Begun}
 use Rattle.statuses.specs.declared.Mode.{Mode}
+use Rattle.statuses.specs.declared.Sets.{Sets}
 use Rattle.statuses.specs.declared.Mode.TheVariants.{Building}
 use Rattle.runs.specs.Runs.{Steppable, Finished}
 use Rattle.runs.proofs.RunningLaws.{plans_written}
@@ -62,38 +62,35 @@ fits out p q room short = sets_front (flat p) out (omega (arith, twice q, room, 
 -- ---- the steps of `run_method`
 
 module _ {s g : State} {y : Yard} {out : List ℕ} (w : Solvable s g y out) where
-  pub may_begin : {cur : List ℕ} {z : Yard} → length cur ≡ length s → length z ≡ 2 → Beginnable s g cur y z
-  may_begin e h = record { problem = w.problem; state_size = e; sized = w.sized; start = w.start; sets = h }
+  pub may_begin : {cur : List ℕ} → length cur ≡ length s → Beginnable s g cur y
+  may_begin e = record { problem = w.problem; state_size = e; sized = w.sized; start = w.start }
 
-module _ {s g : State} {y : Yard} {out : List ℕ} (w : Solvable s g y out) (m : Method) {d : Mode} (is : d ≡ mode_of m) {cur : List ℕ} {y₁ z₁ : Yard}
+module _ {s g : State} {y : Yard} {out : List ℕ} (w : Solvable s g y out) (m : Method) {d : Mode} (is : d ≡ mode_of m) {cur : List ℕ} {y₁ : Yard} {z₁ : Sets}
     (b : Begun d s g cur y y₁ z₁) where
   pub first_steppable : Steppable d cur g y₁ z₁ out 0
   first_steppable = lent.first_steppable w.problem w.visits b w.room
 
-  module _ {k : ℕ} {t : State} {y₂ z₂ : Yard} {out₂ : List ℕ} (f : Finished d cur g 0 out k t y₂ z₂ out₂) {u : Bool} (e : u ≡ is_us m) where
+  module _ {k : ℕ} {t : State} {y₂ : Yard} {z₂ : Sets} {out₂ : List ℕ} (f : Finished d cur g 0 out k t y₂ z₂ out₂) where
     first : Finished (mode_of m) s g 0 out k t y₂ z₂ out₂
     first = rw (b.state, is) at f
 
     -- one run
-    pub one_way : not u ≡ true → Ran m s g out k out₂
+    pub one_way : is_us m ≡ false → Ran m s g out k out₂
     one_way n =
         let p = first.ran.moves in
         record {
           moves = p;
-          outcome = one_run m s g (sym e ∙ not-true u n) (run_plan first (enough w.problem.problem));
+          outcome = one_run m s g n (run_plan first (enough w.problem.problem));
           count = omega (arith, first.ran.count);
           written = first.ran.written ∙ fits out p w.problem.problem w.room (omega (arith, first.ran.spent));
         }
 
     -- two runs
-    module _ (n : not u ≡ false) where
-      us : is_us m ≡ true
-      us = sym e ∙ not-false u n
-
+    module _ (us : is_us m ≡ true) where
       pub second_steppable : Steppable Building t g y₂ z₂ out₂ k
       second_steppable = steps_flat (ap walksᵇ is ∙ flat_first m us) refl (ran_steppable first_steppable.room first_steppable.count f.ran)
 
-      pub two_way : {r : ℕ} {t' : State} {y₃ z₃ : Yard} {out₃ : List ℕ} → Finished Building t g k out₂ r t' y₃ z₃ out₃ → Ran m s g out r out₃
+      pub two_way : {r : ℕ} {t' : State} {y₃ : Yard} {z₃ : Sets} {out₃ : List ℕ} → Finished Building t g k out₂ r t' y₃ z₃ out₃ → Ran m s g out r out₃
       two_way h =
           let p = first.ran.moves in
           let q = h.ran.moves in

@@ -48,11 +48,6 @@ states s g h e =
     let front = asks_size (length s) ∷ asks_same s g ∷ [] in
     sym (first_no_append front (state_questions 4 5 6 s ++ state_questions 7 8 9 g) ((first_no_lem front (size_decided (length s), λ _. (same_decided s g, λ _. tt)) all_yes).1 (h, (e, tt))))
 
--- each state has its two rows
-pub initial_surveyable : {s g : State} {y : Yard} → Fresh 4 y → length s ≤ most → length g ≡ length s → Surveyable s g y 0
-initial_surveyable f h e =
-    record { small = h; same = e; sized = omega (arith, f.sized); blank_loads = f.blank 0 (omega arith); blank_stands = f.blank 1 (omega arith) }
-
 pub goal_surveyable : {s g : State} {r : Result (Unit {0}) Fault} {y y' : Yard} → Fresh 4 y → length s ≤ most → length g ≡ length s → Surveyed s g r 0 y y' → Surveyable g g y' 2
 goal_surveyable f h e w =
     record {

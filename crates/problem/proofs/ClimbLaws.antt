@@ -25,16 +25,13 @@ use Rattle.blocks.proofs.DecidedLaws.{entries_yes, carries_yes}
 use Rattle.lists.specs.Lists.{Zeros}
 use Rattle.rows.specs.Rows.{Yard, row, store, Within, row_size}
 use Rattle.rows.proofs.RowLaws.{within_none, within_store, within_then, stored, stored_beside}
-use Rattle.problem.specs.Known.{Loads, stands_as, Standable, Climbable, Climbed, Standings}
+use Rattle.problem.specs.Known.{Loads, stands_as, Climbable, Climbed, Standings}
 
 -- ---- one block
 
 -- a block is picked where it rests on the table
 pub picked : (x y : ℕ) → x ≡ 0 → y ≡ pick (eqb x 0) y
 picked x y e = ap (λ t. pick t y) (sym (eq-eqb x 0 e))
-
-pub not_picked : (x y : ℕ) → x ≢ 0 → 0 ≡ pick (eqb x 0) y
-not_picked x y h = ap (λ t. pick t y) (sym (ne_eqb x 0 h))
 
 -- the block that is picked rests on the table, as the table does
 picked_rests : (s : State) (i : ℕ) → support s (pick (eqb (get_or s i 0) 0) (suc i)) ≡ 0
@@ -58,12 +55,6 @@ pick_same false x h = absurd (h refl)
 -- the three answers
 pub stands_right : (x y m : ℕ) → x ≡ y → m ≡ 2 → 2 ≡ stands_as x y m
 stands_right x y m e h = rw (eq-eqb x y e, eq-eqb m 2 h)
-
-pub stands_other : (x y m : ℕ) → x ≢ y → 1 ≡ stands_as x y m
-stands_other x y m n = rw (ne_eqb x y n)
-
-pub stands_wrong : (x y m : ℕ) → x ≡ y → m ≢ 2 → 1 ≡ stands_as x y m
-stands_wrong x y m e n = rw (eq-eqb x y e, ne_eqb m 2 n)
 
 cond_two : (t : Bool) → eqb (cond t 2 1) 2 ≡ t
 cond_two true = refl
@@ -370,9 +361,6 @@ module _ {s g : State} {ld : ℕ} (y : Yard) where
         within = within_none;
       }
 
-  pub rise_length : {n block next below : ℕ} {y' : Yard} → Rising s g ld (begun ld y) n block next below y' → length y' ≡ length y
-  rise_length w = w.within.size ∙ (begun_within ld y).size
-
   pub rise_end : {n block next below : ℕ} {y' : Yard} → Rising s g ld (begun ld y) n block next below y' → block ≡ 0 → n ≤ next → Climbed s g ld y y'
   rise_end w e h = record { stands = finish w.given w.climbing e h; within = within_then (begun_within ld y) w.within }
 
@@ -381,36 +369,9 @@ module _ {s g : State} {ld : ℕ} {y₀ : Yard} where
     sized : ld + 1 < length y
     sized = omega (arith, w.within.size, w.given.sized)
 
-    pub rise_look : {x : ℕ} → block ≡ 0 → next < n → x ≡ pick (eqb (get_or s next 0) 0) (next + 1) → Rising s g ld y₀ n x (next + 1) 2 y
-    rise_look e h a = record {
-      given = w.given;
-      climbing = look w.climbing e h a;
-      carried = λ m. sym (ap (λ b. get_or (row y (ld + 1)) b 0) (looked_rests s next (a ∙ rw add-one)) ∙ w.climbing.table);
-      within = w.within;
-    }
-
-    -- the way up a tower has ended
-    pub rise_rest : block ≡ 0 → Rising s g ld y₀ n 0 next 2 y
-    rise_rest e = record {
-      given = w.given;
-      climbing = rw e at w.climbing;
-      carried = λ m. absurd (m refl);
-      within = w.within;
-    }
-
     module _ (m : block ≢ 0) where
-      pub may_stand : Standable s g block
-      may_stand = record {
-        low = omega (arith, m);
-        high = w.climbing.inside;
-        same = w.given.same;
-      }
-
       pub block_in : block < row_size
       block_in = omega (arith, w.climbing.inside, w.given.small)
-
-      pub loads_in : (v : ℕ) → ld < length (store y (ld + 1) block v)
-      loads_in v = rw length-set (omega (arith, sized))
 
       module _ {x v : ℕ} (e : x ≡ get_or (row (store y (ld + 1) block v) ld) block 0)
           (f : v ≡ stands_as (get_or s (block - 1) 0) (get_or g (block - 1) 0) below) where

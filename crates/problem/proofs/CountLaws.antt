@@ -1,21 +1,20 @@
 -- Loops over the blocks from 1 to n: what decides each test that a scan or a count asks. Assumes nothing.
 use Prim.Native.Nat.{ℕ, suc, ◌+◌, ◌≤◌, ◌<◌}
 use mathlib.Core.Path.{◌≡◌, ap, sym, ◌∙◌}
-use mathlib.Core.Bool.{Bool, true, not}
+use mathlib.Core.Bool.{Bool, not}
 use mathlib.Core.List.{List}
 use native.Mathlib.Omega.{arith}
 use native.Mathlib.Numerals.{add-one}
 use borrow.Author.Tests.{eq-eqb, ne_eqb, lt-ltb, le-ltb}
 use lib.Dec.{eqb}
 use lib.ListN.{length, get_or}
-use mir.Syntax.{w64}
-use mir.Val.{bool_byte, Fits}
+use mir.Val.{bool_byte}
 use Rattle.std.specs.Prelude.{Some, None}
 use Rattle.lists.specs.Search.{lowest, nonzero, count}
 use Rattle.lists.proofs.NonzeroLaws.{nonzero_none, nonzero_some}
 use Rattle.lists.proofs.ReflectLaws.{reflects_same}
 use Rattle.lists.proofs.SearchLaws.{count_ext}
-use Rattle.lists.proofs.ScanLaws.{Scanned, scan_begin, scan_next, scan_found, scan_none, sweep_none, Counted, counted_begin, counted_next, counted_fits, counted_end}
+use Rattle.lists.proofs.ScanLaws.{Scanned, scan_next, scan_found, scan_none, Counted, counted_begin, counted_next}
 use Rattle.rows.specs.Rows.{Yard, stands_of}
 use Rattle.blocks.specs.State.{State, most, support}
 use Rattle.blocks.specs.Position.{Proper}
@@ -33,18 +32,11 @@ found_at i e = nonzero_some (i + 1) (λ z. omega arith) ∙ ap nonzero e
 pub found_none : {x : ℕ} → 0 ≡ x → None ≡ nonzero x
 found_none e = nonzero_none (sym e)
 
--- a sweep has passed none
-pub swept_none : {any : Bool} (b : ℕ) → any ≡ not (eqb b 0) → not any ≡ true → None ≡ nonzero b
-swept_none b e h = found_none (sweep_none e h)
-
 -- ---- question 4: the entries up to i are at most n
 
 pub record Inside (s : State) (n i : ℕ) : Type 0 where
   pub all : n ≡ length s
   pub scanned : Scanned (outsideᵇ s) (length s) i
-
-pub inside_begin : {s : State} {n : ℕ} → n ≡ length s → Inside s n 0
-inside_begin {s} e = record { all = e; scanned = scan_begin (outsideᵇ s) (length s) }
 
 module _ {s : State} {n i x : ℕ} (w : Inside s n i) (h : i < n) (e : x ≡ get_or s i 0) where
   pub inside_next : x ≤ n → Inside s n (i + 1)
@@ -69,14 +61,7 @@ pub record Compared (s g : State) (n i : ℕ) : Type 0 where
   pub same : length g ≡ length s
   pub scanned : Scanned (differs s g) (length s) i
 
-pub compared_begin : {s g : State} {n : ℕ} → n ≡ length s → length g ≡ length s → Compared s g n 0
-compared_begin {s} {g} e h = record { all = e; same = h; scanned = scan_begin (differs s g) (length s) }
-
 module _ {s g : State} {n i : ℕ} (w : Compared s g n i) where
-  pub compared_next : i < n → get_or s i 0 ≡ get_or g i 0 → Compared s g n (i + 1)
-  compared_next h e =
-      record { all = w.all; same = w.same; scanned = scan_next w.scanned (omega (arith, w.all)) (ap not (eq-eqb (get_or s i 0) (get_or g i 0) e)) }
-
   pub compared_found : i < n → (get_or s i 0 ≡ get_or g i 0 → ⊥) → Some (i + 1) ≡ nonzero (first_difference s g)
   unfolding first_difference
   compared_found h m = found_at i (scan_found w.scanned (omega (arith, w.all)) (ap not (ne_eqb (get_or s i 0) (get_or g i 0) m)))
@@ -94,13 +79,7 @@ pub record Reached (st : List ℕ) (n i : ℕ) : Type 0 where
   pub room : n < length st
   pub scanned : Scanned (unreached st) n i
 
-pub reached_begin : {st : List ℕ} {n : ℕ} → n < length st → Reached st n 0
-reached_begin {st} {n} h = record { room = h; scanned = scan_begin (unreached st) n }
-
 module _ {st : List ℕ} {n i : ℕ} (w : Reached st n i) where
-  pub reached_next : i < n → (get_or st (i + 1) 0 ≡ 0 → ⊥) → Reached st n (i + 1)
-  reached_next h m = record { room = w.room; scanned = scan_next w.scanned h (ne_eqb (get_or st (suc i) 0) 0 (rw add-one at m)) }
-
   pub reached_found : i < n → get_or st (i + 1) 0 ≡ 0 → Some (i + 1) ≡ nonzero (lowest (λ b. eqb (get_or st b 0) 0) n)
   reached_found h e = found_at i (scan_found w.scanned h (eq-eqb (get_or st (suc i) 0) 0 (rw add-one at e)))
 
@@ -123,12 +102,6 @@ misplacing_begin {y} h l = record { sized = h; small = l; counted = counted_begi
 module _ {y : Yard} {n c i : ℕ} {t : Bool} (w : Misplacing y n c i) (e : t ≡ misplaced_in y (i + 1)) where
   pub misplacing_next : i < n → Misplacing y n (c + bool_byte t) (i + 1)
   misplacing_next h = record { sized = w.sized; small = w.small; counted = counted_next t w.counted h (rw (add-one i) at e) }
-
-  pub misplacing_fits : i < n → Fits w64 (c + bool_byte t)
-  misplacing_fits h = counted_fits t w.counted h (omega (arith, w.small))
-
-pub misplacing_end : {y : Yard} {n c i : ℕ} → Misplacing y n c i → n ≤ i → c ≡ count (misplaced_in y) n
-misplacing_end w h = counted_end w.counted h
 
 -- they are the misplaced blocks of the state
 pub misplaced_in_lem : {s g : State} (y : Yard) → Proper s → Standings s g (stands_of y) → count (misplaced_in y) (length s) ≡ misplaced_count s g

@@ -1,5 +1,5 @@
 -- Filling the loads of a state (question 5): a list of zeros, the test of one entry, and what the loop knows after i entries. Assumes nothing.
-use Prim.Native.Nat.{ℕ, zero, suc, ◌+◌, ◌*◌, ◌≤◌, ◌<◌}
+use Prim.Native.Nat.{ℕ, zero, suc, ◌+◌, ◌≤◌, ◌<◌}
 use mathlib.Core.Path.{◌≡◌, refl, sym, ap, ◌∙◌, subst}
 use mathlib.Core.Bool.{Bool, true, false, not, ◌&&◌}
 use mathlib.Core.List.{List}
@@ -10,8 +10,6 @@ use borrow.Author.Tests.{ltb-false, eqb-true, not-false, eq-eqb, ne_eqb}
 use lib.Dec.{ltb, eqb}
 use lib.ListN.{length, get_or, set, length-set}
 use lib.Seq.{get_or-set_same, get_or-set_other}
-use mir.Syntax.{w64}
-use mir.Val.{Fits}
 use Rattle.problem.specs.Known.{Fillable, Filled}
 use Rattle.blocks.specs.State.{State, most, support}
 use Rattle.std.specs.Prelude.{Some, None}
@@ -24,12 +22,6 @@ use Rattle.problem.proofs.CountLaws.{found_at, found_none}
 use Rattle.lists.proofs.ReflectLaws.{same?}
 
 -- ---- the test of one entry
-
-pub table_free : {x : ℕ} (t : Bool) → x ≡ 0 → false ≡ (not (eqb x 0) && t)
-table_free {x} t e = rw (eq-eqb x 0 e)
-
-pub block_taken : {x : ℕ} (t : Bool) → (x ≡ 0 → ⊥) → t ≡ (not (eqb x 0) && t)
-block_taken {x} t m = rw (ne_eqb x 0 m)
 
 -- ---- the loads of the blocks from 1 to i are filled in, and none of these shares a support with a lower one
 
@@ -68,9 +60,6 @@ module _ {s : State} {l₀ l : List ℕ} {n i x : ℕ} (w : Filling s l₀ n l i
 
   pub entry_in : x < length l
   entry_in = omega (arith, entry_le, w.room)
-
-  pub entry_scaled : Fits w64 (x * 2)
-  entry_scaled = record { fits = omega (arith, entry_le, w.small) }
 
   -- what the test of one entry says of the next block
   next_shares : (not (eqb x 0) && not (eqb (get_or l x 0) 0)) ≡ sharedᵇ s (suc i)

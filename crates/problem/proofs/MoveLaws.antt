@@ -1,14 +1,12 @@
 -- A legal move, and what rests on each block afterwards: its old support carries nothing, its destination carries it, all else is as it was.
 -- Assumes nothing.
-use Prim.Native.Nat.{ℕ, ◌-◌, ◌*◌, ◌≤◌, ◌<◌}
+use Prim.Native.Nat.{ℕ, ◌-◌, ◌≤◌, ◌<◌}
 use mathlib.Core.Path.{◌≡◌, sym, ap, ◌∙◌}
 use mathlib.Core.Logic.{◌⊎◌, inl, inr, ◌≢◌}
 use mathlib.Core.List.{List}
 use native.Mathlib.Omega.{arith}
 use lib.ListN.{length, get_or, set, length-set}
 use lib.Seq.{get_or-set_same, get_or-set_other}
-use mir.Syntax.{w64}
-use mir.Val.{Fits}
 use Rattle.blocks.specs.State.{State, support, put}
 use Rattle.blocks.specs.Position.{Proper}
 use Rattle.blocks.specs.Tests.{load}
@@ -78,15 +76,6 @@ module _ {s : State} {l : List ℕ} {a x : ℕ} (w : Movable s l a x) where
 module _ {s : State} {l : List ℕ} {a x u : ℕ} (w : Movable s l a x) (e : u ≡ get_or s (a - 1) 0) where
   old : u ≡ support s a
   old = e ∙ sym (support_at s a w.legal.block.low)
-
-  pub old_within : u < length l
-  old_within = omega (arith, old, w.loads.room, w.proper.entries a)
-
-  pub old_scaled : Fits w64 (u * 2)
-  old_scaled = record { fits = omega (arith, old, w.small, w.proper.entries a) }
-
-  pub new_within : x < length (set l u 0)
-  new_within = rw (length-set l u 0) (omega (arith, w.loads.room, w.legal.inside))
 
   pub moved_to : MovedTo s a x (set s (a - 1) x) (set (set l u 0) x a)
   moved_to =

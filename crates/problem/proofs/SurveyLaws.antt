@@ -7,11 +7,11 @@ use mathlib.Core.List.{List, [], ◌∷◌}
 use native.Mathlib.Omega.{arith}
 use borrow.Author.Tests.{eq-eqb, ne_eqb}
 use lib.Dec.{eqb}
-use lib.ListN.{length, get_or, set, length-set}
+use lib.ListN.{length, get_or, set}
 use mir.Syntax.{w16}
 use mir.Val.{Fits}
 use Rattle.rows.specs.Rows.{Yard, row, Within}
-use Rattle.rows.proofs.RowLaws.{row_set, row_beside, within_none, within_set, within_then, within_wider}
+use Rattle.rows.proofs.RowLaws.{row_set, within_none, within_set, within_then, within_wider}
 use Rattle.blocks.specs.State.{State, most}
 use Rattle.lists.specs.Search.{lowest, nonzero}
 use Rattle.lists.proofs.NonzeroLaws.{none_zero, some_is, some_nonzero}
@@ -21,7 +21,7 @@ use Rattle.lists.proofs.ReflectLaws.{reflects_same}
 use Rattle.blocks.proofs.DecidedLaws.{entries_yes}
 use Rattle.lists.proofs.SearchLaws.{lowest_le, lowest_ext}
 use Rattle.blocks.proofs.GroundLaws.{grounded_test}
-use Rattle.problem.specs.Known.{Fillable, Filled, Climbable, Climbed, Standings}
+use Rattle.problem.specs.Known.{Filled, Climbed, Standings}
 use Rattle.problem.specs.Checked.{Surveyable, Surveyed}
 use Rattle.problem.specs.declared.Fault.TheVariants.{Outside, Shared, Floating}
 
@@ -40,23 +40,6 @@ outside_fits s e h = lowest_fits (outsideᵇ s) e h
 pub shared_fits : {s : State} {p : ℕ} {l : List ℕ} → Filled s (Some p) l → length s ≤ most → Fits w16 p
 unfolding first_shared
 shared_fits {s} w h = lowest_fits (sharedᵇ s) w.place_is h
-
--- the loads can be filled in
-pub fillable : {s g : State} {y : Yard} {ld : ℕ} → Surveyable s g y ld → None ≡ nonzero (first_outside s) → Fillable s (row y ld)
-fillable {s} v e = record { small = v.small; entries = none_zero (first_outside s) (sym e); blank = v.blank_loads }
-
--- the loads where question 5 is answered yes, in their row
-pub may_climb : {s g : State} {y : Yard} {ld : ℕ} {l : List ℕ} → Surveyable s g y ld → None ≡ nonzero (first_outside s) → Filled s None l → Climbable s g (set y ld l) ld
-may_climb {s} {g} {y} {ld} {l} v e w =
-    record {
-      small = v.small;
-      entries = none_zero (first_outside s) (sym e);
-      carries = none_zero (first_shared s) (sym w.place_is);
-      same = v.same;
-      known = rw (row_set y ld l (omega (arith, v.sized))) (w.loads refl);
-      sized = rw length-set v.sized;
-      blank = rw (row_beside y ld (ld + 1) l (λ z. omega arith)) v.blank_stands;
-    }
 
 -- what was not reached does not come down to the table
 pub unreached_is : {s g : State} {st : List ℕ} → first_outside s ≡ 0 → Standings s g st → lowest (λ b. eqb (get_or st b 0) 0) (length s) ≡ first_floating s

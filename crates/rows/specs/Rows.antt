@@ -51,13 +51,6 @@ places_of y = row y 8
 abbrev pub row_count : ℕ
 row_count = 9
 
--- The two sets of a run are rows of another.
-abbrev pub ready_of : Yard → List ℕ
-ready_of z = row z 0
-
-abbrev pub loose_of : Yard → List ℕ
-loose_of z = row z 1
-
 -- A row on which nothing is written.
 pub record Blank (l : List ℕ) : Type 0 where
   pub room : most < length l

@@ -2,25 +2,25 @@
 use Prim.Native.Nat.{ℕ, zero, suc, ◌≤◌}
 use mathlib.Core.Path.{◌≡◌, refl, sym, ap, ◌∙◌}
 use mathlib.Core.Logic.{◌≢◌}
-use mathlib.Core.Bool.{Bool, true, not, cond, true≢false}
+use mathlib.Core.Bool.{true, not, cond}
 use mathlib.Core.List.{List}
 use native.Mathlib.Omega.{arith}
 use borrow.Author.Tests.{not-true}
 use lib.Dec.{eqb}
 use lib.ListN.{length, get_or}
 use Rattle.rows.specs.Rows.{Yard, Within}
-use Rattle.rows.proofs.RowLaws.{within_none, within_then, within_wider, sized_within}
+use Rattle.rows.proofs.RowLaws.{within_then, within_wider, sized_within}
 use Rattle.lists.proofs.ReflectLaws.{from_false, to_true, eqb_reflects, reflects_same}
 use Rattle.blocks.specs.State.{State}
 use Rattle.blocks.specs.Position.{Proper}
 use Rattle.blocks.specs.Tests.{in_positionᵇ}
 use Rattle.blocks.proofs.PositionLaws.{position_test, position_table}
 use Rattle.problem.specs.Known.{Standings}
-use Rattle.towers.specs.Towers.{Stands, Fillable, Filled, Climbable, Climbed}
+use Rattle.towers.specs.Towers.{Stands, Filled, Climbable, Climbed}
 use Rattle.towers.specs.Linked.{Known}
-use Rattle.statuses.specs.Modes.{walksᵇ}
-use Rattle.statuses.specs.Kept.{Sets, Fittable, Fitted, Beginnable, Begun}
+use Rattle.statuses.specs.Kept.{SetsHold, Fitted, Beginnable, Begun}
 use Rattle.statuses.specs.declared.Mode.{Mode}
+use Rattle.statuses.specs.declared.Sets.{Sets}
 use Rattle.statuses.proofs.TestLaws.{table_stands}
 
 -- ---- what is known of the blocks
@@ -46,20 +46,16 @@ stands_from {s} {g} {st} p w = record { room = w.room; at = at }
         two (get_or st (suc i) 0) (marked (suc i) (omega arith) high) (w.small (suc i) (omega arith) high)
         ∙ ap (λ t. cond t 2 1) (reflects_same (λ x. x) (λ x. x) (w.right (suc i) (omega arith) high (p.grounded (suc i))) (position_test s g p (suc i)))
 
-pub fittable : {s g : State} {cur cur' : List ℕ} {y z : Yard} → Beginnable s g cur y z → cur' ≡ s → Fittable cur' g y z
-fittable {s} {g} {y = y} {z} w e =
+pub known_start : {s g : State} {cur cur' : List ℕ} {y : Yard} → Beginnable s g cur y → cur' ≡ s → Known cur' g y
+known_start {s} {g} {y = y} w e =
     let p = w.problem.problem in
     rw e (record {
-      known =
-          record {
-            small = w.problem.small;
-            problem = p;
-            sized = w.sized;
-            loads = w.start.loads;
-            stands = stands_from p.initial w.start.stands;
-            goal_loads = w.start.goal_loads;
-          };
-      sized = w.sets;
+      small = w.problem.small;
+      problem = p;
+      sized = w.sized;
+      loads = w.start.loads;
+      stands = stands_from p.initial w.start.stands;
+      goal_loads = w.start.goal_loads;
     })
 
 -- it stays known while only other rows change
@@ -76,73 +72,49 @@ known_within k w h =
 
 -- ---- the towers
 
-module _ {s g : State} {y : Yard} (k : Known s g y) where
-  pub unfitted : {m : Mode} {r : Bool} → r ≡ walksᵇ m → not r ≡ true → Fitted m s g y y
-  unfitted {m} {r} e n = record { towers = λ q. absurd (true≢false (sym q ∙ sym e ∙ not-true r n)); within = within_none }
+module _ {s g : State} {y y₁ : Yard} (k : Known s g y) (f : Filled s 3 y y₁) where
+  still : Known s g y₁
+  still = known_within k f.within (omega arith)
 
-  pub state_fillable : Fillable s y 0 3
-  state_fillable =
-      record { small = k.small; proper = k.problem.initial; known = k.loads; before = omega arith; inside = omega arith; sized = k.sized }
+  module _ {y₂ : Yard} (h : Filled g 5 y₁ y₂) where
+    again : Known s g y₂
+    again = known_within still h.within (omega arith)
 
-  module _ {y₁ : Yard} (f : Filled s 3 y y₁) where
-    still : Known s g y₁
-    still = known_within k f.within (omega arith)
-
-    pub goal_fillable : Fillable g y₁ 2 5
-    goal_fillable =
+    pub climbable : Climbable g y₂
+    climbable =
         record {
           small = omega (arith, k.small, k.problem.same);
           proper = k.problem.goal;
-          known = still.goal_loads;
-          before = omega arith;
-          inside = omega arith;
-          sized = still.sized;
+          sized = again.sized;
+          goal_loads = again.goal_loads;
+          goal_bottoms = h.bottom;
+          room = omega (arith, again.stands.room, k.problem.same);
+          table = table_stands again;
         }
 
-    module _ {y₂ : Yard} (h : Filled g 5 y₁ y₂) where
-      again : Known s g y₂
-      again = known_within still h.within (omega arith)
-
-      pub climbable : Climbable g y₂
-      climbable =
-          record {
-            small = omega (arith, k.small, k.problem.same);
-            proper = k.problem.goal;
-            sized = again.sized;
-            goal_loads = again.goal_loads;
-            goal_bottoms = h.bottom;
-            room = omega (arith, again.stands.room, k.problem.same);
-            table = table_stands again;
-          }
-
-      pub fitted : {m : Mode} {y₃ : Yard} → Climbed g y₂ y₃ → Fitted m s g y y₃
-      fitted c =
-          record {
-            towers = λ _.
-                record {
-                  bottoms = rw (c.within.below 3 (omega arith), h.within.below 3 (omega arith)) f.bottom;
-                  tops = rw (c.within.below 4 (omega arith), h.within.below 4 (omega arith)) f.top;
-                  goal_bottoms = rw (c.within.below 5 (omega arith)) h.bottom;
-                  highs = c.highs s k.problem again.stands;
-                };
-            within =
-                within_then (within_wider f.within (omega arith) (omega arith))
-                (within_then (within_wider h.within (omega arith) (omega arith)) (within_wider c.within (omega arith) (omega arith)));
-          }
+    pub fitted : {m : Mode} {y₃ : Yard} → Climbed g y₂ y₃ → Fitted m s g y y₃
+    fitted c =
+        record {
+          towers = λ _.
+              record {
+                bottoms = rw (c.within.below 3 (omega arith), h.within.below 3 (omega arith)) f.bottom;
+                tops = rw (c.within.below 4 (omega arith), h.within.below 4 (omega arith)) f.top;
+                goal_bottoms = rw (c.within.below 5 (omega arith)) h.bottom;
+                highs = c.highs s k.problem again.stands;
+              };
+          within =
+              within_then (within_wider f.within (omega arith) (omega arith))
+              (within_then (within_wider h.within (omega arith) (omega arith)) (within_wider c.within (omega arith) (omega arith)));
+        }
 
 -- ---- what a run keeps beside the blocks, and all
 
-module _ {m : Mode} {s g : State} {y z y₁ : Yard} (w : Fittable s g y z) (f : Fitted m s g y y₁) where
-  pub refittable : Fittable s g y₁ z
-  refittable = record { known = known_within w.known f.within (omega arith); sized = w.sized }
+module _ {m : Mode} {s g : State} {y y₁ : Yard} (w : Known s g y) (f : Fitted m s g y y₁) where
+  pub known_fitted : Known s g y₁
+  known_fitted = known_within w f.within (omega arith)
 
-  pub kept : {z' : Yard} → Sets m s g z' → Begun m s g s y y₁ z'
-  kept q =
-      record {
-        state = refl;
-        kept = record { known = known_within w.known f.within (omega arith); sets = q; towers = f.towers };
-        within = f.within;
-      }
+  pub kept : {z : Sets} → SetsHold m s g z → Begun m s g s y y₁ z
+  kept q = record { state = refl; kept = record { known = known_fitted; sets = q; towers = f.towers }; within = f.within }
 
-pub begun : {m : Mode} {s g t : State} {y y₁ z : Yard} → t ≡ s → Begun m t g t y y₁ z → Begun m s g t y y₁ z
+pub begun : {m : Mode} {s g t : State} {y y₁ : Yard} {z : Sets} → t ≡ s → Begun m t g t y y₁ z → Begun m s g t y y₁ z
 begun {m} {s} {g} {t} {y} {y₁} {z} e q = record { state = e; kept = rw e at q.kept; within = q.within }

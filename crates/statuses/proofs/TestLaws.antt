@@ -1,12 +1,12 @@
 -- The tests of a block, as the code decides them from the rows and as the definitions say. Assumes nothing.
 use Prim.Native.Nat.{ℕ, suc, ◌-◌, ◌≤◌, ◌<◌}
 use mathlib.Core.Path.{◌≡◌, refl, sym, ap, ap₂, ◌∙◌}
-use mathlib.Core.Logic.{◌⊎◌, inl, inr, ◌≢◌}
+use mathlib.Core.Logic.{◌⊎◌, inl, inr}
 use mathlib.Core.Bool.{Bool, true, false, not, ◌&&◌, ◌||◌, cond, and_comm}
 use native.Mathlib.Omega.{arith}
 use lib.Dec.{eqb}
 use lib.ListN.{length, get_or}
-use borrow.Author.Tests.{eq-eqb, ne_eqb, not-true, not-false}
+use borrow.Author.Tests.{eq-eqb, ne_eqb}
 use Rattle.rows.specs.Rows.{Yard, loads_of, stands_of, row_size}
 use Rattle.lists.proofs.ReflectLaws.{same?, to_true}
 use Rattle.blocks.specs.State.{State, support}
@@ -20,16 +20,6 @@ use Rattle.statuses.specs.Reads.{Readable, waits_in, perched_in, target_in, read
 use Rattle.statuses.specs.declared.Mode.{Mode}
 
 -- ---- the code
-
--- r is what the row says of in position
-module _ {r : Bool} (y : Yard) (b : ℕ) (e : r ≡ right_in (stands_of y) b) where
-  pub waits_not : r ≡ true → false ≡ waits_in y b
-  unfolding waits_in
-  waits_not h = ap (λ t. not t && eqb (get_or (loads_of y) b 0) 0) (sym h ∙ e)
-
-  pub waits_at : r ≡ false → eqb (get_or (loads_of y) b 0) 0 ≡ waits_in y b
-  unfolding waits_in
-  waits_at h = ap (λ t. not t && eqb (get_or (loads_of y) b 0) 0) (sym h ∙ e)
 
 -- the table stands in position, so what waits is a block
 waits_block : (y : Yard) (b : ℕ) → get_or (stands_of y) 0 0 ≡ 2 → waits_in y b ≡ true → 1 ≤ b
@@ -48,70 +38,22 @@ module _ {s : State} {y : Yard} {b : ℕ} (w : Readable s y b) where
   read_in = omega (arith, w.high, w.small)
 
   -- r is what the test for waiting answered
-  module _ {r : Bool} (e : r ≡ waits_in y b) where
-    pub perched_not : not r ≡ true → false ≡ perched_in s y b
-    unfolding perched_in
-    perched_not n = ap (λ t. t && not (eqb (get_or s (b - 1) 0) 0)) (sym (not-true r n) ∙ e)
+  module _ {r : Bool} (e : r ≡ waits_in y b) (h : r ≡ true) where
+    pub block_low : 1 ≤ b
+    block_low = waits_block y b w.table (sym e ∙ h)
 
-    pub ready_not : not r ≡ true → false ≡ ready_in s y b
-    unfolding ready_in
-    ready_not n = ap (λ t. t && target_in y (get_or s (b - 1) 0)) (sym (not-true r n) ∙ e)
+    pub entry_within : b - 1 < length s
+    entry_within = omega (arith, block_low, w.high)
+    -- x is what was read as b's support
 
-    module _ (n : not r ≡ false) where
-      waits : waits_in y b ≡ true
-      waits = sym e ∙ not-false r n
-
-      pub block_low : 1 ≤ b
-      block_low = waits_block y b w.table waits
-
-      pub entry_within : b - 1 < length s
-      entry_within = omega (arith, block_low, w.high)
-
-      pub perched_at : not (eqb (get_or s (b - 1) 0) 0) ≡ perched_in s y b
-      unfolding perched_in
-      perched_at = ap (λ t. t && not (eqb (get_or s (b - 1) 0) 0)) (sym waits)
-
-      -- x is what was read as b's support
-      module _ {x : ℕ} (f : x ≡ get_or s (b - 1) 0) where
-        pub target_load : x < length (loads_of y)
-        target_load = omega (arith, f, w.entries (b - 1), w.small, w.sized.rooms 0 (omega arith))
-
-        pub target_stand : x < length (stands_of y)
-        target_stand = omega (arith, f, w.entries (b - 1), w.small, w.sized.rooms 1 (omega arith))
-
-        -- v is what the row says of it in position
-        module _ {v : Bool} (on : v ≡ right_in (stands_of y) x) where
-          pub target_off : not v ≡ true → false ≡ ready_in s y b
-          unfolding ready_in target_in
-          target_off m =
-              ap (λ t. t && not (not (eqb x 0) && not (eqb (get_or (loads_of y) x 0) 0))) (sym (not-true v m) ∙ on)
-              ∙ ap (target_in y) f
-              ∙ ap (λ t. t && target_in y (get_or s (b - 1) 0)) (sym waits)
-
-          pub target_at : {t : Bool} → t ≡ (not (eqb x 0) && not (eqb (get_or (loads_of y) x 0) 0)) → not v ≡ false → not t ≡ ready_in s y b
-          unfolding ready_in target_in
-          target_at {t} h m =
-              ap not h
-              ∙ ap (λ u. u && not (not (eqb x 0) && not (eqb (get_or (loads_of y) x 0) 0))) (sym (not-false v m) ∙ on)
-              ∙ ap (target_in y) f
-              ∙ ap (λ u. u && target_in y (get_or s (b - 1) 0)) (sym waits)
-
--- r is whether the run walks the loop, and t what the other test answered
-module _ {r t : Bool} (k : Mode) (s : State) (y : Yard) (b : ℕ) (e : r ≡ walksᵇ k) where
-  pub loose_off : not r ≡ true → t ≡ perched_in s y b → t ≡ loose_in k s y b
-  unfolding loose_in
-  loose_off n h = h ∙ ap (λ u. cond u (waits_in y b) (perched_in s y b)) (sym (not-true r n) ∙ e)
-
-  pub loose_on : not r ≡ false → t ≡ waits_in y b → t ≡ loose_in k s y b
-  unfolding loose_in
-  loose_on n h = h ∙ ap (λ u. cond u (waits_in y b) (perched_in s y b)) (sym (not-false r n) ∙ e)
-
--- the block that goes onto u
-pub onto_table : {u : ℕ} (x : ℕ) → u ≡ 0 → 0 ≡ cond (eqb u 0) 0 x
-onto_table {u} x e = rw (eq-eqb u 0 e)
-
-pub onto_block : {u r x : ℕ} → u ≢ 0 → r ≡ x → r ≡ cond (eqb u 0) 0 x
-onto_block {u} n e = rw (ne_eqb u 0 n) e
+-- a number that is not in a set in which none is wrongly, since it does not wait
+pub table_ready : {g : State} {y : Yard} {b : ℕ} → Readable g y b → b ≡ 0 → ready_in g y b ≡ false
+unfolding ready_in
+table_ready {g} {y} {b} w e = by (waits_in y b) refl
+  where
+    by : (t : Bool) → waits_in y b ≡ t → (t && target_in y (get_or g (b - 1) 0)) ≡ false
+    by false q = refl
+    by true q = absurd (omega (arith, waits_block y b w.table q))
 
 -- ---- the definitions
 

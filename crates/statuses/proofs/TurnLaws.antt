@@ -1,16 +1,14 @@
 -- A turn of one move: what each of its steps may rely on, and what is kept when all are done. Assumes nothing.
-use Prim.Native.Nat.{ℕ, ◌-◌, ◌*◌, ◌≤◌, ◌<◌}
+use Prim.Native.Nat.{ℕ, ◌-◌, ◌≤◌}
 use mathlib.Core.Path.{◌≡◌, sym, ap, ◌∙◌}
 use mathlib.Core.Logic.{◌⊎◌, inl, inr, ◌≢◌}
-use mathlib.Core.Bool.{Bool, true, false, not, true≢false}
+use mathlib.Core.Bool.{Bool, false, not}
 use mathlib.Core.List.{List}
 use native.Mathlib.Omega.{arith}
-use borrow.Author.Tests.{not-true, not-false}
+use borrow.Author.Tests.{not-false}
 use lib.ListN.{length, get_or, set}
-use mir.Syntax.{w64}
-use mir.Val.{Fits}
 use Rattle.rows.specs.Rows.{Yard, Sized, row, loads_of, stands_of, Within}
-use Rattle.rows.proofs.RowLaws.{row_set, row_beside, within_none, within_set, within_then, within_wider, sized_within}
+use Rattle.rows.proofs.RowLaws.{row_set, row_beside, within_set, within_then, within_wider, sized_within}
 use Rattle.lists.proofs.ReflectLaws.{same?}
 use Rattle.blocks.specs.State.{State, support, put}
 use Rattle.blocks.specs.Position.{Problem}
@@ -25,17 +23,15 @@ use Rattle.towers.specs.Linked.{Known, Towered}
 use Rattle.towers.specs.Moved.{Shifting, Shifted, restood, Raisable, raised}
 use Rattle.towers.proofs.RestandLaws as restand
 use Rattle.statuses.specs.Modes.{walksᵇ, looseᵇ}
-use Rattle.statuses.specs.Kept.{Sets, Moving, Traceable, Traced, Turnable, Turned}
+use Rattle.statuses.specs.Kept.{SetsHold, Moving, Traceable, Traced, Turnable, Turned}
 use Rattle.statuses.specs.declared.Mode.{Mode}
+use Rattle.statuses.specs.declared.Sets.{Sets}
 use Rattle.statuses.proofs.SetsLaws.{no_ready, no_loose, table_outside}
 use Rattle.statuses.proofs.ChangeLaws.{loose_same, ready_same, loose_stays, ready_stays}
 
 -- ---- the towers follow the move
 
 module _ {m : Mode} {s g : State} {y : Yard} {a x : ℕ} (w : Traceable m s g y a x) {r : Bool} (e : r ≡ walksᵇ m) where
-  pub untraced : not r ≡ true → Traced m s g a x y y
-  untraced n = record { towers = λ q. absurd (true≢false (sym q ∙ sym e ∙ not-true r n)); within = within_none }
-
   module _ (n : not r ≡ false) where
     towers : Towered s g y
     towers = w.towers (sym e ∙ not-false r n)
@@ -79,32 +75,19 @@ module _ {m : Mode} {s g : State} {y : Yard} {a x : ℕ} (w : Traceable m s g y 
 
 -- ---- the turn
 
-module _ {m : Mode} {s g : State} {y z : Yard} {a x : ℕ} (w : Turnable m s g y z a x) where
+module _ {m : Mode} {s g : State} {y : Yard} {z : Sets} {a x : ℕ} (w : Turnable m s g y z a x) where
   problem : Problem s g
   problem = w.kept.known.problem
 
   legal : Legal s a x
   legal = moves_legal problem w.move
 
-  pub traceable : Traceable m s g y a x
-  traceable = record { known = w.kept.known; move = w.move; towers = w.kept.towers }
-
   pub turn_low : 1 ≤ a
   turn_low = legal.block.low
-
-  pub turn_within : a - 1 < length s
-  turn_within = omega (arith, legal.block.low, legal.block.high)
-
-  pub turn_scaled : Fits w64 ((a - 1) * 2)
-  turn_scaled = record { fits = omega (arith, turn_within, w.kept.known.small) }
 
   module _ {y₁ : Yard} (f : Traced m s g a x y y₁) where
     same_stands : stands_of y₁ ≡ stands_of y
     same_stands = f.within.below 1 (omega arith)
-
-    pub may_restand : (1 ≤ a) × (a - 1 < length g) × (a < length (stands_of y₁))
-    may_restand =
-        (turn_low, restand.move_within problem w.move, rw same_stands (restand.move_in problem w.move w.kept.known.stands))
 
     module _ {st : List ℕ} (k : st ≡ restood g a x (stands_of y₁)) (long-st : length st ≡ length (stands_of y₁)) where
       abbrev y₂ : Yard
@@ -158,9 +141,8 @@ module _ {m : Mode} {s g : State} {y z : Yard} {a x : ℕ} (w : Turnable m s g y
               moved = turn_low;
               moved_high = omega (arith, long, legal.block.high);
               old_high = omega (arith, long, old, problem.initial.entries a);
-              sized = w.kept.sets.sized;
-              ready = record { valid = w.kept.sets.ready.valid; same = λ b h n o p q. w.kept.sets.ready.same b h ∙ ready b n o p q (same? b 0) };
-              loose = record { valid = w.kept.sets.loose.valid; same = λ b h n o. w.kept.sets.loose.same b h ∙ loose b n o (same? b 0) };
+              ready = record { same = λ b h n o p q. w.kept.sets.ready.same b h ∙ ready b n o p q (same? b 0) };
+              loose = record { same = λ b h n o. w.kept.sets.loose.same b h ∙ loose b n o (same? b 0) };
               ready_sound = λ b h n r.
                   ap (λ i. readyᵇ i g b) v.state ∙ ready_stays problem w.move b n (sym (w.kept.sets.ready.same b h) ∙ r);
               loose_sound = λ b h n r.
@@ -183,7 +165,7 @@ module _ {m : Mode} {s g : State} {y z : Yard} {a x : ℕ} (w : Turnable m s g y
             loose b n o (inl z) = ap (looseᵇ m s g) z ∙ no_loose problem 0 table_outside m ∙ sym (ap (looseᵇ m t g) z ∙ no_loose after 0 table_outside m)
             loose b n o (inr i) = loose_same problem w.move b n (other b o i) m ∙ ap (λ i. looseᵇ m i g b) (sym v.state)
 
-        pub turned : {z' : Yard} → Sets m t g z' → Turned m s g a x t y y₃ z'
+        pub turned : {z' : Sets} → SetsHold m t g z' → Turned m s g a x t y y₃ z'
         turned q =
             record {
               state = v.state;

@@ -3,26 +3,40 @@
 
 #![tactic(auto)]
 
-ghost use Rattle.std.specs.Prelude.{◌≡◌, cond, ◌<◌, eqb, length, get_or};
-ghost use Rattle.rows.specs.Rows.{goal_loads_of, row_size, row_count};
-ghost use Rattle.numberset.specs.Members.{Assigned};
+ghost use Rattle.std.specs.Prelude.{◌≡◌, ◌<◌};
+ghost use Rattle.lists.specs.Search.{nonzero};
+ghost use Rattle.rows.specs.Rows.{row_size};
+ghost use Rattle.numberset.specs.Members.{Empty, Assigned};
 ghost use Rattle.towers.specs.Linked.{Known};
 ghost use Rattle.statuses.specs.Modes.{buildsᵇ, puts_downᵇ, walksᵇ};
-ghost use Rattle.statuses.specs.Reads.{Readable, waits_in, perched_in, ready_in, loose_in};
-ghost use Rattle.statuses.specs.Kept.{Sets, Offerable, Admissible, Refreshable, Refreshed, Moving, Fittable, Fitted, Kept, Traceable, Traced, Turnable, Turned, Beginnable, Begun};
+ghost use Rattle.statuses.specs.Reads.{Readable, onto, waits_in, perched_in, target_in, ready_in, loose_in};
+ghost use Rattle.statuses.specs.Kept.{SetsHold, Offerable, Admissible, Refreshable, Refreshed, Moving, Fitted, Kept, Traceable, Traced, Turnable, Turned, Beginnable, Begun};
 
-use numberset::WORDS;
+use numberset::NumberSet;
 use rows::{BOTTOMS, GOAL_BOTTOMS, GOAL_LOADS, LOADS, STANDS, Yard};
 
-// The sets of a run as rows: the blocks that are ready, and those that are loose.
-pub const READY: usize = 0;
+// The sets of a run: the blocks that are ready, and those that are loose.
+#[derive(Drop)]
+pub struct Sets {
+    pub ready: NumberSet,
+    pub loose: NumberSet,
+}
 
-pub const LOOSE: usize = 1;
-
-pub type Sets = [[u64; WORDS]; 2];
+impl Sets {
+    // Nothing is in either.
+    pub fn new() -> Self
+        ensures ready { Empty result.ready }
+        ensures loose { Empty result.loose }
+    {
+        Sets {
+            ready: NumberSet::new(),
+            loose: NumberSet::new(),
+        }
+    }
+}
 
 // The modes of a run: the first loop of method 1, constructive moves alone (its second loop, and the deadlock test), and methods 2 and 3.
-#[derive(Clone, Copy)]
+#[derive(Clone, Copy, Debug, PartialEq, Eq)]
 pub enum Mode {
     Clearing,
     Building,
@@ -30,39 +44,26 @@ pub enum Mode {
     Gn2,
 }
 
-// Whether a run makes constructive moves.
-pub fn builds(mode: Mode) -> bool
-    ensures { result ≡ buildsᵇ mode }
-{
-    match mode {
-        Mode::Clearing => false,
-        Mode::Building => true,
-        Mode::Gn1 => true,
-        Mode::Gn2 => true,
+impl Mode {
+    // Whether the run makes constructive moves.
+    pub fn builds(self) -> bool
+        ensures { result ≡ buildsᵇ self }
+    {
+        !matches!(self, Mode::Clearing)
     }
-}
 
-// Whether a run puts blocks down.
-pub fn puts_down(mode: Mode) -> bool
-    ensures { result ≡ puts_downᵇ mode }
-{
-    match mode {
-        Mode::Clearing => true,
-        Mode::Building => false,
-        Mode::Gn1 => true,
-        Mode::Gn2 => true,
+    // Whether the run puts blocks down.
+    pub fn puts_down(self) -> bool
+        ensures { result ≡ puts_downᵇ self }
+    {
+        !matches!(self, Mode::Building)
     }
-}
 
-// Whether a run walks the loop: then it keeps the towers, and its loose blocks are all that wait. Else they are the perched ones, and no towers are kept.
-pub fn walks(mode: Mode) -> bool
-    ensures { result ≡ walksᵇ mode }
-{
-    match mode {
-        Mode::Clearing => false,
-        Mode::Building => false,
-        Mode::Gn1 => false,
-        Mode::Gn2 => true,
+    // Whether the run walks the loop: then it keeps the towers, and its loose blocks are all that wait. Else they are the perched ones, and no towers are kept.
+    pub fn walks(self) -> bool
+        ensures { result ≡ walksᵇ self }
+    {
+        matches!(self, Mode::Gn2)
     }
 }
 
@@ -75,16 +76,16 @@ pub fn begin(
     yard: &mut Yard,
     sets: &mut Sets,
 )
-    requires { Beginnable initial.now goal.now cur.old yard.old sets.old }
+    requires { Beginnable initial.now goal.now cur.old yard.old }
     ensures { Begun mode initial.now goal.now cur.new yard.old yard.new sets.new }
 {
-    lists::copy(initial, cur);
+    cur.copy_from_slice(initial);
     fit(mode, cur, goal, yard, sets);
 }
 
 // What a run keeps beside the blocks: the two sets, and the towers where it walks the loop.
 pub fn fit(mode: Mode, cur: &[u16], goal: &[u16], yard: &mut Yard, sets: &mut Sets)
-    requires { Fittable cur.now goal.now yard.old sets.old }
+    requires { Known cur.now goal.now yard.old }
     ensures { Begun mode cur.now goal.now cur.now yard.old yard.new sets.new }
 {
     fit_towers(mode, cur, goal, yard);
@@ -96,7 +97,7 @@ fn fit_towers(mode: Mode, cur: &[u16], goal: &[u16], yard: &mut Yard)
     requires { Known cur.now goal.now yard.old }
     ensures { Fitted mode cur.now goal.now yard.old yard.new }
 {
-    if !walks(mode) {
+    if !mode.walks() {
         return;
     }
     towers::fill_towers(cur, yard, LOADS, BOTTOMS);
@@ -107,15 +108,12 @@ fn fit_towers(mode: Mode, cur: &[u16], goal: &[u16], yard: &mut Yard)
 
 // The two sets of the state.
 fn fill_sets(mode: Mode, cur: &[u16], goal: &[u16], yard: &Yard, sets: &mut Sets)
-    requires { Fittable cur.now goal.now yard.now sets.old }
-    ensures { Sets mode cur.now goal.now sets.new }
+    requires { Known cur.now goal.now yard.now }
+    ensures { SetsHold mode cur.now goal.now sets.new }
 {
-    numberset::clear(&mut sets[READY]);
-    numberset::clear(&mut sets[LOOSE]);
-    let n = cur.len();
-    let mut b = 0;
-    while b < n {
-        b += 1;
+    sets.ready.clear();
+    sets.loose.clear();
+    for b in 1..=cur.len() {
         admit(mode, cur, goal, yard, sets, b);
     }
 }
@@ -135,7 +133,7 @@ pub fn turn(
 {
     trace(mode, cur, goal, yard, a, x);
     towers::restand(goal, &mut yard[STANDS], a, x);
-    let u = lists::wide(cur[a - 1]);
+    let u = usize::from(cur[a - 1]);
     problem::make_move(cur, &mut yard[LOADS], a, x);
     refresh_four(mode, cur, goal, yard, sets, a, u);
 }
@@ -145,7 +143,7 @@ fn trace(mode: Mode, cur: &[u16], goal: &[u16], yard: &mut Yard, a: usize, x: us
     requires { Traceable mode cur.now goal.now yard.old a x }
     ensures { Traced mode cur.now goal.now a x yard.old yard.new }
 {
-    if !walks(mode) {
+    if !mode.walks() {
         return;
     }
     towers::shift(cur, yard, a, x);
@@ -164,36 +162,43 @@ fn refresh_four(
     u: usize,
 )
     requires { Moving mode cur.now goal.now yard.now sets.old a u }
-    ensures { Sets mode cur.now goal.now sets.new }
+    ensures { SetsHold mode cur.now goal.now sets.new }
 {
     refresh(mode, cur, goal, yard, sets, a);
-    offer(goal, yard, &mut sets[READY], onto(yard, a));
+    offer_onto(goal, yard, &mut sets.ready, a);
     if u == 0 {
         return;
     }
     admit(mode, cur, goal, yard, sets, u);
-    offer(goal, yard, &mut sets[READY], onto(yard, u));
+    offer_onto(goal, yard, &mut sets.ready, u);
 }
 
-// The block that goes onto u in the goal; 0 for the table.
-fn onto(yard: &Yard, u: usize) -> usize
-    requires { (length yard.now ≡ row_count) × (u < row_size) }
-    ensures { result ≡ cond (eqb u 0) 0 (get_or (goal_loads_of yard.now) u 0) }
+// The same as `offer` for the block that goes onto u in the goal, if one does.
+fn offer_onto(goal: &[u16], yard: &Yard, ready: &mut NumberSet, u: usize)
+    requires { (u < row_size) × Offerable goal.now yard.now ready.old (onto yard.now u) }
+    ensures { Assigned ready.old (onto yard.now u) (ready_in goal.now yard.now (onto yard.now u)) ready.new }
 {
-    if u == 0 {
-        0
-    } else {
-        lists::wide(yard[GOAL_LOADS][u])
+    if let Some(b) = onto(yard, u) {
+        offer(goal, yard, ready, b);
     }
+}
+
+// The block that goes onto u in the goal.
+fn onto(yard: &Yard, u: usize) -> Option<usize>
+    requires { u < row_size }
+    ensures { result ≡ nonzero (onto yard.now u) }
+{
+    let b = usize::from(yard[GOAL_LOADS][u]);
+    if u == 0 || b == 0 { None } else { Some(b) }
 }
 
 // Decides both tests of block b anew.
 fn refresh(mode: Mode, cur: &[u16], goal: &[u16], yard: &Yard, sets: &mut Sets, b: usize)
-    requires { Refreshable cur.now goal.now yard.now sets.old b }
+    requires { Refreshable cur.now goal.now yard.now b }
     ensures { Refreshed mode cur.now goal.now b sets.old sets.new }
 {
-    numberset::assign(&mut sets[READY], b, is_ready(goal, yard, b));
-    numberset::assign(&mut sets[LOOSE], b, is_loose(mode, cur, yard, b));
+    sets.ready.assign(b, is_ready(goal, yard, b));
+    sets.loose.assign(b, is_loose(mode, cur, yard, b));
 }
 
 // The same for a block that is in no set in which it must not stay.
@@ -201,68 +206,67 @@ fn admit(mode: Mode, cur: &[u16], goal: &[u16], yard: &Yard, sets: &mut Sets, b:
     requires { Admissible mode cur.now goal.now yard.now sets.old b }
     ensures { Refreshed mode cur.now goal.now b sets.old sets.new }
 {
-    offer(goal, yard, &mut sets[READY], b);
-    if !is_loose(mode, cur, yard, b) {
-        return;
+    offer(goal, yard, &mut sets.ready, b);
+    if is_loose(mode, cur, yard, b) {
+        sets.loose.insert(b);
     }
-    numberset::assign(&mut sets[LOOSE], b, true);
 }
 
 // Puts block b into the set where it is ready. Where it is not, it is not in the set.
-fn offer(goal: &[u16], yard: &Yard, ready: &mut [u64], b: usize)
+fn offer(goal: &[u16], yard: &Yard, ready: &mut NumberSet, b: usize)
     requires { Offerable goal.now yard.now ready.old b }
     ensures { Assigned ready.old b (ready_in goal.now yard.now b) ready.new }
 {
-    if !is_ready(goal, yard, b) {
-        return;
+    if is_ready(goal, yard, b) {
+        ready.insert(b);
     }
-    numberset::assign(ready, b, true);
 }
 
 // Whether block b has a constructive move: it is misplaced and clear, and its goal support is in position and clear.
+#[tactic(auto, unfolding(crate::specs::Reads::ready_in))]
 fn is_ready(goal: &[u16], yard: &Yard, b: usize) -> bool
     requires { Readable goal.now yard.now b }
     ensures { result ≡ ready_in goal.now yard.now b }
 {
-    if !is_waiting(yard, b) {
-        return false;
-    }
-    let x = lists::wide(goal[b - 1]);
-    if !problem::in_position(&yard[STANDS], x) {
-        return false;
-    }
-    !problem::taken(&yard[LOADS], x)
+    is_waiting(yard, b) && is_target(yard, usize::from(goal[b - 1]))
+}
+
+// Whether block x is in position and clear; the table is clear.
+#[tactic(auto, unfolding(crate::specs::Reads::target_in))]
+fn is_target(yard: &Yard, x: usize) -> bool
+    requires { x < row_size }
+    ensures { result ≡ target_in yard.now x }
+{
+    problem::in_position(&yard[STANDS], x) && !problem::taken(&yard[LOADS], x)
 }
 
 // Whether block b waits, or is perched, by the mode of the run.
+#[tactic(auto, unfolding(crate::specs::Reads::loose_in))]
 fn is_loose(mode: Mode, cur: &[u16], yard: &Yard, b: usize) -> bool
     requires { Readable cur.now yard.now b }
     ensures { result ≡ loose_in mode cur.now yard.now b }
 {
-    if !walks(mode) {
-        return is_perched(cur, yard, b);
+    if mode.walks() {
+        is_waiting(yard, b)
+    } else {
+        is_perched(cur, yard, b)
     }
-    is_waiting(yard, b)
 }
 
 // Whether block b is misplaced and clear, and off the table.
+#[tactic(auto, unfolding(crate::specs::Reads::perched_in))]
 fn is_perched(cur: &[u16], yard: &Yard, b: usize) -> bool
     requires { Readable cur.now yard.now b }
     ensures { result ≡ perched_in cur.now yard.now b }
 {
-    if !is_waiting(yard, b) {
-        return false;
-    }
-    cur[b - 1] != 0
+    is_waiting(yard, b) && cur[b - 1] != 0
 }
 
 // Whether block b is misplaced and clear.
+#[tactic(auto, unfolding(crate::specs::Reads::waits_in))]
 fn is_waiting(yard: &Yard, b: usize) -> bool
-    requires { (length yard.now ≡ row_count) × (b < row_size) }
+    requires { b < row_size }
     ensures { result ≡ waits_in yard.now b }
 {
-    if problem::in_position(&yard[STANDS], b) {
-        return false;
-    }
-    yard[LOADS][b] == 0
+    !problem::in_position(&yard[STANDS], b) && yard[LOADS][b] == 0
 }

@@ -16,7 +16,6 @@ use Rattle.training.specs.Numbering.{IsState}
 use Rattle.training.specs.Training.{train_answer, train_space, draw_answer, draw_space, draw_seed}
 use Rattle.topjeska.specs.declared.ReplayAnswer.{ReplayAnswer}
 use Rattle.topjeska.specs.declared.TrainingAnswer.{TrainingAnswer}
-use Rattle.topjeska.specs.declared.DrawAnswer.{DrawAnswer}
 
 abbrev pub as_check : CheckAnswer → answer.CheckAnswer
 as_check r = record { number = r.refusal; place = r.place }
@@ -65,9 +64,9 @@ pub record ExportsTraining (n r : ℕ) (space : List ℕ) (a : TrainingAnswer) (
   pub state : a.refusal ≡ 0 → IsState n (take n space')
 
 -- Training from a generator: the same, and its new seed, which is not zero where a state was drawn.
-pub record ExportsDraw (n seed : ℕ) (space : List ℕ) (a : DrawAnswer) (space' : List ℕ) : Type 0 where
-  pub answer : as_training a.answer ≡ draw_answer n seed space
+pub record ExportsDraw (n seed : ℕ) (space : List ℕ) (a : TrainingAnswer) (seed' : ℕ) (space' : List ℕ) : Type 0 where
+  pub answer : as_training a ≡ draw_answer n seed space
   pub lent : space' ≡ draw_space n seed space
-  pub advanced : a.seed ≡ draw_seed n seed space
-  pub state : a.answer.refusal ≡ 0 → IsState n (take n space')
-  pub lasts : a.answer.refusal ≡ 0 → a.seed ≢ 0
+  pub advanced : seed' ≡ draw_seed n seed space
+  pub state : a.refusal ≡ 0 → IsState n (take n space')
+  pub lasts : a.refusal ≡ 0 → seed' ≢ 0

@@ -4,33 +4,31 @@
 
 ghost use Rattle.std.specs.Prelude.{◌≡◌, ◌≢◌};
 ghost use Rattle.blocks.specs.Sheet.{plain, office, panel};
-ghost use Rattle.blocks.specs.Answer.{check_answer};
-ghost use Rattle.problem.specs.Checked.{answer_of as checkedAs};
-ghost use Rattle.planner.specs.Answers.{answer_of as plannedAs};
-ghost use Rattle.deadlocks.specs.Answers.{answer_of as testedAs};
-ghost use Rattle.validator.specs.Replayed.{answer_of as replayedAs};
-ghost use Rattle.training.specs.Answers.{answer_of};
-ghost use Rattle.topjeska.specs.Options.{lengths_bit, panel_bit, option_set, sheet_for, call_for};
+ghost use Rattle.blocks.specs.Answer.{checked, check_answer};
+ghost use Rattle.refusals.specs.Refusals.{asked_of};
+ghost use Rattle.lengths.specs.Checks.{sheet_of};
+ghost use Rattle.planner.specs.Answers.{call_of, answer_of as planned_as};
+ghost use Rattle.deadlocks.specs.Answers.{answer_of as tested_as};
+ghost use Rattle.validator.specs.Replayed.{answer_of as replayed_as};
+ghost use Rattle.topjeska.specs.Options.{option_set, sheet_for, call_for};
 ghost use Rattle.topjeska.specs.Exports.{as_check, as_plan, as_deadlock, as_replay, as_training, ExportsTraining, ExportsDraw};
 ghost use Rattle.topjeska.specs.Exports.{ExportsPlan, ExportsDeadlock, ExportsReplay};
 
-use deadlocks::Tested;
 use generator::Generator;
-use lengths::Given;
+use lengths::Sheet;
 use planner::{Call, Planned};
-use problem::Checked;
-use training::Trained;
-use validator::Replayed;
+use refusals::Refusal;
+use validator::Verdict;
 
 #[repr(C)]
-#[derive(Drop)]
+#[derive(Clone, Copy, Debug, PartialEq, Eq)]
 pub struct CheckAnswer {
     pub refusal: u64,
     pub place: u64,
 }
 
 #[repr(C)]
-#[derive(Drop)]
+#[derive(Clone, Copy, Debug, PartialEq, Eq)]
 pub struct PlanAnswer {
     pub refusal: u64,
     pub place: u64,
@@ -39,7 +37,7 @@ pub struct PlanAnswer {
 }
 
 #[repr(C)]
-#[derive(Drop)]
+#[derive(Clone, Copy, Debug, PartialEq, Eq)]
 pub struct DeadlockAnswer {
     pub refusal: u64,
     pub place: u64,
@@ -47,7 +45,7 @@ pub struct DeadlockAnswer {
 }
 
 #[repr(C)]
-#[derive(Drop)]
+#[derive(Clone, Copy, Debug, PartialEq, Eq)]
 pub struct ReplayAnswer {
     pub refusal: u64,
     pub verdict: u64,
@@ -55,21 +53,20 @@ pub struct ReplayAnswer {
 }
 
 #[repr(C)]
-#[derive(Drop)]
+#[derive(Clone, Copy, Debug, PartialEq, Eq)]
 pub struct TrainingAnswer {
     pub refusal: u64,
     pub place: u64,
 }
 
-// What a draw answers, and the seed that it leaves.
-#[derive(Drop)]
-struct DrawAnswer {
-    answer: TrainingAnswer,
-    seed: u64,
-}
-
 // What a refused replay has in place of a verdict.
 const NO_VERDICT: u64 = 65535;
+
+// What a refused call of planning has in place of a plan's counts.
+const NO_PLAN: Planned = Planned {
+    count: 0,
+    misplaced: 0,
+};
 
 // The bits of `options`. Those that are not named are not looked at.
 const LENGTHS: u16 = 1;
@@ -82,7 +79,7 @@ const PANEL: u16 = 2;
 pub extern "C" fn topjeska_check(initial: &[u16], goal: &[u16]) -> CheckAnswer
     ensures { as_check result ≡ check_answer (plain initial.now goal.now) }
 {
-    topjeska_check_with(0, initial, goal, &initial[..0])
+    topjeska_check_with(0, initial, goal, &[])
 }
 
 // The same with options: with lengths also questions 16 to 18. Without their bit the lengths are not looked at.
@@ -95,8 +92,8 @@ pub extern "C" fn topjeska_check_with(
 ) -> CheckAnswer
     ensures { as_check result ≡ check_answer (sheet_for options initial.now goal.now lengths.now) }
 {
-    let given = given_for(options);
-    check_numbers(lengths::check(given, initial, goal, lengths))
+    let sheet = sheet_for(options, initial, goal, lengths);
+    lengths::check(sheet).into()
 }
 
 // Planning: the pairs are written from the front of the lent space.
@@ -109,7 +106,7 @@ pub extern "C" fn topjeska_plan(
 ) -> PlanAnswer
     ensures { ExportsPlan (office method) (plain initial.now goal.now) out.old result out.new }
 {
-    topjeska_plan_with(0, method, initial, goal, &initial[..0], out)
+    topjeska_plan_with(0, method, initial, goal, &[], out)
 }
 
 // The same by the cabin panel's entry, which takes at most 600 slabs.
@@ -122,7 +119,7 @@ pub extern "C" fn topjeska_plan_panel(
 ) -> PlanAnswer
     ensures { ExportsPlan (panel method) (plain initial.now goal.now) out.old result out.new }
 {
-    topjeska_plan_with(PANEL, method, initial, goal, &initial[..0], out)
+    topjeska_plan_with(PANEL, method, initial, goal, &[], out)
 }
 
 // Planning with options: with lengths, by the panel's entry, or both.
@@ -138,8 +135,8 @@ pub extern "C" fn topjeska_plan_with(
     ensures { ExportsPlan (call_for options method) (sheet_for options initial.now goal.now lengths.now) out.old result out.new }
 {
     let call = call_for(options, method);
-    let given = given_for(options);
-    plan_numbers(planner::plan(call, given, initial, goal, lengths, out))
+    let sheet = sheet_for(options, initial, goal, lengths);
+    planner::plan(call, sheet, out).into()
 }
 
 // The deadlock test: the rows are written from the front of the lent space; count 0 says that nothing is deadlocked.
@@ -151,7 +148,7 @@ pub extern "C" fn topjeska_deadlock(
 ) -> DeadlockAnswer
     ensures { ExportsDeadlock (plain initial.now goal.now) out.old result out.new }
 {
-    topjeska_deadlock_with(0, initial, goal, &initial[..0], out)
+    topjeska_deadlock_with(0, initial, goal, &[], out)
 }
 
 // The same with options.
@@ -165,8 +162,8 @@ pub extern "C" fn topjeska_deadlock_with(
 ) -> DeadlockAnswer
     ensures { ExportsDeadlock (sheet_for options initial.now goal.now lengths.now) out.old result out.new }
 {
-    let given = given_for(options);
-    deadlock_numbers(deadlocks::deadlock(given, initial, goal, lengths, out))
+    let sheet = sheet_for(options, initial, goal, lengths);
+    deadlocks::deadlock(sheet, out).into()
 }
 
 // Replay of a list of lifts.
@@ -174,7 +171,7 @@ pub extern "C" fn topjeska_deadlock_with(
 pub extern "C" fn topjeska_replay(initial: &[u16], goal: &[u16], lifts: &[u16]) -> ReplayAnswer
     ensures { ExportsReplay (plain initial.now goal.now) lifts.now result }
 {
-    topjeska_replay_with(0, initial, goal, &initial[..0], lifts)
+    topjeska_replay_with(0, initial, goal, &[], lifts)
 }
 
 // The same with options: with lengths also verdict 6.
@@ -188,8 +185,8 @@ pub extern "C" fn topjeska_replay_with(
 ) -> ReplayAnswer
     ensures { ExportsReplay (sheet_for options initial.now goal.now lengths.now) lifts.now result }
 {
-    let given = given_for(options);
-    replay_numbers(validator::validate(given, initial, goal, lengths, lifts))
+    let sheet = sheet_for(options, initial, goal, lengths);
+    validator::validate(sheet, lifts).into()
 }
 
 // Training: the state of a number, written over the first n entries of the lent list.
@@ -197,8 +194,7 @@ pub extern "C" fn topjeska_replay_with(
 pub extern "C" fn topjeska_training(n: usize, r: u64, state: &mut [u16]) -> TrainingAnswer
     ensures { ExportsTraining n r state.old result state.new }
 {
-    let trained = training::train(n, r, state);
-    in_numbers(trained)
+    training::train(n, r, state).into()
 }
 
 // Training: the state of the number that the lent generator draws, which moves on; a refusal leaves it as it was.
@@ -208,40 +204,11 @@ pub extern "C" fn topjeska_training_draw(
     n: usize,
     state: &mut [u16],
 ) -> TrainingAnswer
-    ensures { ExportsDraw n generator.old.seed state.old (record { answer = result; seed = generator.new.seed }) state.new }
+    ensures { ExportsDraw n generator.old.seed state.old result generator.new.seed state.new }
 {
-    let draw = draw_from(generator.seed, n, state);
-    generator.seed = draw.seed;
-    draw.answer
-}
-
-// The draw by value: from a seed to the next.
-fn draw_from(seed: u64, n: usize, state: &mut [u16]) -> DrawAnswer
-    ensures { ExportsDraw n seed state.old result state.new }
-{
-    let drawn = training::draw(Generator { seed }, n, state);
-    let trained = drawn.trained;
-    let generator = drawn.generator;
-    DrawAnswer {
-        answer: in_numbers(trained),
-        seed: generator.seed,
-    }
-}
-
-// The answer in document 01's numbers.
-fn in_numbers(trained: Trained) -> TrainingAnswer
-    ensures { as_training result ≡ answer_of trained }
-{
-    match trained {
-        Trained::Refused { number, place } => TrainingAnswer {
-            refusal: number as u64,
-            place: place as u64,
-        },
-        Trained::Written => TrainingAnswer {
-            refusal: 0,
-            place: 0,
-        },
-    }
+    let drawn = training::draw(*generator, n, state);
+    *generator = drawn.generator;
+    drawn.answer.into()
 }
 
 // Whether a bit of the options is set.
@@ -252,17 +219,19 @@ fn has_option(options: u16, bit: u16) -> bool
     options / bit % 2 == 1
 }
 
-// Which lists are given, and how planning is asked, by the options.
-fn given_for(options: u16) -> Given
-    ensures { result.lengths ≡ option_set options lengths_bit }
+// The sheet of the lists, and how planning is asked, by the options.
+fn sheet_for<'a>(options: u16, initial: &'a [u16], goal: &'a [u16], lengths: &'a [u16]) -> Sheet<'a>
+    ensures { sheet_of result ≡ sheet_for options initial.now goal.now lengths.now }
 {
-    Given {
-        lengths: has_option(options, LENGTHS),
+    Sheet {
+        initial,
+        goal,
+        lengths: has_option(options, LENGTHS).then_some(lengths),
     }
 }
 
 fn call_for(options: u16, method: u16) -> Call
-    ensures { (result.method ≡ method) × (result.panel ≡ option_set options panel_bit) }
+    ensures { call_of result ≡ call_for options method }
 {
     Call {
         method,
@@ -270,76 +239,79 @@ fn call_for(options: u16, method: u16) -> Call
     }
 }
 
-// The answers of the other operations in the documents' numbers.
-fn check_numbers(checked: Checked) -> CheckAnswer
-    ensures { as_check result ≡ checkedAs checked }
-{
-    match checked {
-        Checked::Accepted => CheckAnswer {
-            refusal: 0,
-            place: 0,
-        },
-        Checked::Refused { number, place } => CheckAnswer {
-            refusal: number as u64,
-            place: place as u64,
-        },
+// The answers of the operations in the documents' numbers. The first two are 0 and 0, or those of the first "no".
+impl<A: Drop> From<Result<A, Refusal>> for CheckAnswer {
+    ghost from_gives = { λ asked answer. as_check answer ≡ checked (asked_of asked) };
+
+    fn from(asked: Result<A, Refusal>) -> CheckAnswer {
+        match asked {
+            Ok(_) => CheckAnswer {
+                refusal: 0,
+                place: 0,
+            },
+            Err(refusal) => CheckAnswer {
+                refusal: u64::from(refusal.question.number()),
+                place: u64::from(refusal.place),
+            },
+        }
     }
 }
 
-fn plan_numbers(planned: Planned) -> PlanAnswer
-    ensures { as_plan result ≡ plannedAs planned }
-{
-    match planned {
-        Planned::Refused { number, place } => PlanAnswer {
-            refusal: number as u64,
-            place: place as u64,
-            count: 0,
-            misplaced: 0,
-        },
-        Planned::Made { count, misplaced } => PlanAnswer {
-            refusal: 0,
-            place: 0,
+impl From<Result<Planned, Refusal>> for PlanAnswer {
+    ghost from_gives = { λ planned answer. as_plan answer ≡ planned_as planned };
+
+    fn from(planned: Result<Planned, Refusal>) -> PlanAnswer {
+        let CheckAnswer { refusal, place } = planned.into();
+        let Planned { count, misplaced } = planned.unwrap_or(NO_PLAN);
+        PlanAnswer {
+            refusal,
+            place,
             count: count as u64,
             misplaced: misplaced as u64,
-        },
+        }
     }
 }
 
-fn deadlock_numbers(tested: Tested) -> DeadlockAnswer
-    ensures { as_deadlock result ≡ testedAs tested }
-{
-    match tested {
-        Tested::Refused { number, place } => DeadlockAnswer {
-            refusal: number as u64,
-            place: place as u64,
-            count: 0,
-        },
-        Tested::Free => DeadlockAnswer {
-            refusal: 0,
-            place: 0,
-            count: 0,
-        },
-        Tested::Deadlocked { count } => DeadlockAnswer {
-            refusal: 0,
-            place: 0,
-            count: count as u64,
-        },
+// Count 0 says that nothing is deadlocked, and stands in a refusal too.
+impl From<Result<Option<usize>, Refusal>> for DeadlockAnswer {
+    ghost from_gives = { λ tested answer. as_deadlock answer ≡ tested_as tested };
+
+    fn from(tested: Result<Option<usize>, Refusal>) -> DeadlockAnswer {
+        let CheckAnswer { refusal, place } = tested.into();
+        let found = tested.unwrap_or(None);
+        DeadlockAnswer {
+            refusal,
+            place,
+            count: found.unwrap_or(0) as u64,
+        }
     }
 }
 
-fn replay_numbers(replayed: Replayed) -> ReplayAnswer
-    ensures { as_replay result ≡ replayedAs replayed }
-{
-    match replayed {
-        Replayed::Refused { number, place } => ReplayAnswer {
-            refusal: number as u64,
-            verdict: NO_VERDICT,
-            place: place as u64,
-        },
-        Replayed::Judged { verdict, place } => ReplayAnswer {
-            refusal: 0,
-            verdict: verdict as u64,
-            place: place as u64,
-        },
+impl From<Result<Verdict, Refusal>> for ReplayAnswer {
+    ghost from_gives = { λ replayed answer. as_replay answer ≡ replayed_as replayed };
+
+    fn from(replayed: Result<Verdict, Refusal>) -> ReplayAnswer {
+        let CheckAnswer { refusal, place } = replayed.into();
+        match replayed {
+            Ok(verdict) => ReplayAnswer {
+                refusal,
+                verdict: u64::from(verdict.number()),
+                place: verdict.place() as u64,
+            },
+            Err(_) => ReplayAnswer {
+                refusal,
+                verdict: NO_VERDICT,
+                place,
+            },
+        }
+    }
+}
+
+impl From<Result<(), Refusal>> for TrainingAnswer {
+    ghost from_gives = { λ trained answer. as_training answer ≡ checked (asked_of trained) };
+
+    fn from(trained: Result<(), Refusal>) -> TrainingAnswer {
+        let CheckAnswer { refusal, place } = trained.into();
+        TrainingAnswer { refusal, place }
     }
 }

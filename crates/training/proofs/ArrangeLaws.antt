@@ -1,10 +1,9 @@
 -- All blocks taken in order, and the state at the front of the lent list. Assumes nothing.
-use mathlib.Core.Path.{◌≡◌, refl, sym, ap, ◌∙◌, subst}
+use mathlib.Core.Path.{◌≡◌, sym, ap, ◌∙◌, subst}
 use mathlib.Core.List.{List, ◌++◌}
 use Prim.Native.Nat.{ℕ, zero, suc, ◌-◌, ◌≤◌, ◌<◌}
 use native.Mathlib.Omega.{arith}
 use lib.ListN.{length, take, drop, replicate}
-use lib.Seq.{length-take-le}
 use Rattle.lists.specs.Lists.{overwrite}
 use Rattle.blocks.specs.State.{State}
 use Rattle.training.specs.Arrangement.{finish, arrangement}
@@ -27,13 +26,7 @@ pub record Going (s₀ : State) (l₀ : List ℕ) (r m : ℕ) (p : Progress) (s 
   pub placing : Placing m p.grounded p.rest s l
   pub comes : finish m (part_of p s) ≡ finish (length s₀) (part_of (whole r) s₀)
 
-pub going_begin : {s : State} {l : List ℕ} {r : ℕ} → Placing (length s) 0 r s l → Going s l r (length s) (record { grounded = 0; rest = r }) s l
-going_begin w = record { same = refl; rows = refl; within = omega arith; placing = w; comes = refl }
-
 module _ {s₀ : State} {l₀ : List ℕ} {r m : ℕ} {p : Progress} {s : State} {l : List ℕ} (w : Going s₀ l₀ r m p s l) where
-  pub going_placing : 0 < m → Placing (suc (m - 1)) p.grounded p.rest s l
-  going_placing h = subst (λ i. Placing i p.grounded p.rest s l) (let e : m ≡ suc (m - 1) = omega arith in e) w.placing
-
   pub going_next : {q : Progress} {t : State} {k : List ℕ} → 0 < m → length k ≡ length l → Placed (m - 1) p s q t k → Going s₀ l₀ r (m - 1) q t k
   unfolding finish
   going_next {q} {t} {k} h f v = record {
@@ -75,9 +68,6 @@ module _ {n r : ℕ} {out : List ℕ} (w : Numbered n r out) where
     arranged : s ≡ arrangement n r
     unfolding arrangement
     arranged = e ∙ ap (λ k. finish k (part_of (whole r) (room n))) room_length ∙ ap (λ t. finish n (part_of (whole r) t)) room_is
-
-    pub copied_fits : length (take n out) ≡ length s
-    copied_fits = length-take-le n out w.room ∙ sym (ap length arranged ∙ arrangement_length n r)
 
     pub arrange_whole : {t : List ℕ} → t ≡ s → t ++ drop n out ≡ overwrite (arrangement n r) out
     arrange_whole {t} f = ap (λ l. l ++ drop n out) (f ∙ arranged) ∙ ap (λ k. arrangement n r ++ drop k out) (sym (arrangement_length n r))

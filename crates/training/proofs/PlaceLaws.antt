@@ -1,4 +1,5 @@
 -- One block taken by the code: the definition's next part-state, with its loads. Assumes nothing.
+use Rattle.std.proofs.Common.{Option, Some, is_some, true}
 use mathlib.Core.Path.{◌≡◌, refl, sym, ap, ap₂, ◌∙◌, subst}
 use mathlib.Core.Logic.{◌⊎◌, inl, inr, ◌≢◌}
 use mathlib.Core.List.{List}
@@ -10,7 +11,8 @@ use lib.ListN.{length, get_or, set, length-set}
 use lib.Seq.{get_or-set_same, get_or-set_other}
 use Rattle.blocks.specs.State.{State, Block, support, put}
 use Rattle.blocks.specs.Position.{Proper}
-use Rattle.lists.specs.Search.{lowest}
+use Rattle.lists.specs.Search.{lowest, nonzero}
+use Rattle.lists.proofs.NonzeroLaws.{nonzero_some, some_is}
 use Rattle.blocks.specs.Tests.{load, clearᵇ}
 use Rattle.lists.proofs.ReflectLaws.{to_false, eqb_reflects, same?}
 use Rattle.lists.proofs.SearchLaws.{lowest_ext, count_le}
@@ -71,53 +73,61 @@ module _ {m : ℕ} {p : Progress} {s : State} {l : List ℕ} (w : Placing (suc m
           placing = record { small = w.small; part = open_ground o; number = less; loads = w.loads };
         }
 
-    module _ {each t : ℕ} (k : here ≤ p.rest) (e : each ≡ ways m p.grounded) (f : t ≡ picked s (length s - m) ((p.rest - here) / each)) where
+    module _ {each : ℕ} (k : here ≤ p.rest) (e : each ≡ ways m p.grounded) where
       abbrev over : ℕ
       over = p.rest - ways m (p.grounded + 1)
 
       no : ¬ (p.rest < ways m (p.grounded + 1))
       no z = absurd (omega arith)
 
-      same_t : t ≡ picked s (turn m s) (over / ways m p.grounded)
-      same_t = f ∙ ap (λ x. picked s (turn m s) ((p.rest - x) / each)) h ∙ ap (λ x. picked s (turn m s) ((p.rest - ways m (p.grounded + 1)) / x)) e
+      same_top : picked s (turn m s) ((p.rest - here) / each) ≡ picked s (turn m s) (over / ways m p.grounded)
+      same_top = ap (λ x. picked s (turn m s) ((p.rest - x) / each)) h ∙ ap (λ x. picked s (turn m s) ((p.rest - ways m (p.grounded + 1)) / x)) e
 
-      ranked : Ranked (other_topᵇ s (turn m s)) (length s) (over / ways m p.grounded) t
-      ranked = subst (Ranked (other_topᵇ s (turn m s)) (length s) ((p.rest - ways m (p.grounded + 1)) / ways m p.grounded)) (sym same_t)
-          (picked_ranked o p.rest w.number no)
+      -- there is another tower to go to
+      pub top_there : {found : Option ℕ} → found ≡ nonzero (picked s (length s - m) ((p.rest - here) / each)) → is_some found ≡ true
+      top_there f = ap is_some (f ∙ ap nonzero same_top ∙ sym (nonzero_some (picked s (turn m s) (over / ways m p.grounded)) (λ z. absurd (omega (arith, (picked_ranked o p.rest w.number no).low, z)))))
 
-      pub top_within : t < length l
-      top_within = omega (arith, ranked.high, w.loads.room)
+      module _ {found : Option ℕ} {t : ℕ} (f : found ≡ nonzero (picked s (length s - m) ((p.rest - here) / each))) (g : found ≡ Some t) where
+        same_t : t ≡ picked s (turn m s) (over / ways m p.grounded)
+        same_t = sym (some_is (picked s (turn m s) ((p.rest - here) / each)) (sym f ∙ g)) ∙ same_top
 
-      pub top_fits : t < 65536
-      top_fits = omega (arith, ranked.high, w.small)
+        ranked : Ranked (other_topᵇ s (turn m s)) (length s) (over / ways m p.grounded) t
+        ranked = subst (Ranked (other_topᵇ s (turn m s)) (length s) ((p.rest - ways m (p.grounded + 1)) / ways m p.grounded)) (sym same_t)
+            (picked_ranked o p.rest w.number no)
 
-      pub top_scaled : t * 2 < 2 ^ 64
-      top_scaled = omega (arith, top_fits)
+        pub top_within : t < length l
+        top_within = omega (arith, ranked.high, w.loads.room)
 
-      pub place_stack : Placed m p s (record { grounded = p.grounded; rest = (p.rest - here) % each }) (set s (length s - m - 1) t) (set l t (length s - m))
-      place_stack =
-          record {
-            same = length-set s (b - 1) t;
-            is = ap₂ (λ x y. at p.grounded x y) left state ∙ sym (next_by m p.grounded p.rest s no);
-            placing = record {
-              small = rw (length-set s (b - 1) t) w.small;
-              part = subst (Open m p.grounded) (sym stored) (open_stack o ranked);
-              number = subst (λ x. x < ways m p.grounded) (sym left) (mod-lt over (ways_some m p.grounded));
-              loads = subst (λ x. Loads x (set l t b)) (sym stored) (loads_stacked w.loads (turn_block o) (target o ranked) (on_table o ranked) (open_stack o ranked).proper);
-            };
-          }
-        where
-          b : ℕ
-          b = length s - m
+        pub top_fits : t < 65536
+        top_fits = omega (arith, ranked.high, w.small)
 
-          stored : set s (b - 1) t ≡ put s b t
-          stored = sym (put_at s b t (turn_block o).low)
+        pub top_scaled : t * 2 < 2 ^ 64
+        top_scaled = omega (arith, top_fits)
 
-          state : set s (b - 1) t ≡ put s b (picked s b (over / ways m p.grounded))
-          state = stored ∙ ap (put s b) same_t
+        pub place_stack : Placed m p s (record { grounded = p.grounded; rest = (p.rest - here) % each }) (set s (length s - m - 1) t) (set l t (length s - m))
+        place_stack =
+            record {
+              same = length-set s (b - 1) t;
+              is = ap₂ (λ x y. at p.grounded x y) left state ∙ sym (next_by m p.grounded p.rest s no);
+              placing = record {
+                small = rw (length-set s (b - 1) t) w.small;
+                part = subst (Open m p.grounded) (sym stored) (open_stack o ranked);
+                number = subst (λ x. x < ways m p.grounded) (sym left) (mod-lt over (ways_some m p.grounded));
+                loads = subst (λ x. Loads x (set l t b)) (sym stored) (loads_stacked w.loads (turn_block o) (target o ranked) (on_table o ranked) (open_stack o ranked).proper);
+              };
+            }
+          where
+            b : ℕ
+            b = length s - m
 
-          left : (p.rest - here) % each ≡ over % ways m p.grounded
-          left = ap (λ x. (p.rest - x) % each) h ∙ ap (λ x. over % x) e
+            stored : set s (b - 1) t ≡ put s b t
+            stored = sym (put_at s b t (turn_block o).low)
+
+            state : set s (b - 1) t ≡ put s b (picked s b (over / ways m p.grounded))
+            state = stored ∙ ap (put s b) same_t
+
+            left : (p.rest - here) % each ≡ over % ways m p.grounded
+            left = ap (λ x. (p.rest - x) % each) h ∙ ap (λ x. over % x) e
 
   -- a quotient can be asked for
   pub some_each : {each : ℕ} → each ≡ ways m p.grounded → 0 < each

@@ -1,4 +1,5 @@
 -- The ways out of the two operations. Assumes nothing.
+use Rattle.std.proofs.Common.{Ok, Err}
 use mathlib.Core.Path.{◌≡◌, refl, sym, ap, ◌∙◌, subst}
 use mathlib.Core.Logic.{inl, inr, ◌≢◌}
 use mathlib.Core.List.{List}
@@ -8,6 +9,10 @@ use lib.ListN.{length, take}
 use Rattle.lists.specs.Lists.{overwrite}
 use Rattle.blocks.specs.Question.{all_yes, first_no, asks_room}
 use Rattle.blocks.specs.Answer.{checked, written}
+use Rattle.refusals.specs.declared.Question.{Question}
+use Rattle.refusals.specs.declared.Question.TheVariants.{TrainingSize, TrainingNumber, Space}
+use Rattle.refusals.specs.declared.Refusal.{Refusal}
+use Rattle.refusals.specs.Refusals.{number_of}
 use Rattle.counts.specs.Ways.{ways, held}
 use Rattle.counts.proofs.WaysLaws.{ways_some}
 use Rattle.generator.specs.Shifts.{next_seed}
@@ -19,36 +24,35 @@ use Rattle.training.specs.Training.{asks_few, asks_number, asks_seed, questions,
 use Rattle.training.specs.Training.{draw_questions, DrawRefused, drawn_number, drawn_state, draw_answer, draw_space, moved, draw_seed}
 use Rattle.training.specs.Placing.{Numbered}
 use Rattle.training.specs.Answers.{Trains, Draws}
-use Rattle.training.specs.declared.Trained.TheVariants.{Refused, Written}
 use Rattle.training.specs.declared.Drawn.{Drawn}
 use Rattle.training.proofs.Theorems.{front_state, drawn_below, train_accepts, train_refuses, train_refusal, draw_accepts, draw_refuses, draw_refusal}
 
--- a refusal writes nothing
-not_written : {A : Type 0} {k p : ℕ} → Refused k p ≡ Written → A
-not_written e = let z : ◌≡◌ {A = ℕ} 0 1 = cc in absurd (omega arith)
+-- a refusal that names no place
+abbrev no : Question → Refusal
+no q = record { question = q; place = 0 }
 
 -- ---- a given number
 
 module _ (n r : ℕ) (space : List ℕ) where
-  refused : (k p : ℕ) → TrainRefused n r space k p → Trains n r space (Refused k p) space
-  refused k p w =
-      let u = train_refusal n r space k p w in
-      record { asked = sym ((train_refuses n r space k p).1 w); answer = sym u.0; lent = sym u.1; state = λ e. not_written e }
+  refused : (q : Question) → TrainRefused n r space (number_of q) 0 → {e : Refusal} → e ≡ no q → Trains n r space (Err e) space
+  refused q w f =
+      let u = train_refusal n r space (number_of q) 0 w in
+      rw f (record { asked = sym ((train_refuses n r space (number_of q) 0).1 w); answer = sym u.0; lent = sym u.1; state = tt })
 
-  pub too_many : held < n → Trains n r space (Refused 14 0) space
+  pub too_many : held < n → {e : Refusal} → e ≡ no TrainingSize → Trains n r space (Err e) space
   unfolding questions asks_few
-  too_many h = refused 14 0 (inl (refl, (refl, λ l. omega arith)))
+  too_many h = refused TrainingSize (inl (refl, (refl, λ l. omega arith)))
 
   module _ {c : ℕ} (h : n ≤ held) (e : c ≡ ways n 0) where
-    pub too_high : c ≤ r → Trains n r space (Refused 15 0) space
+    pub too_high : c ≤ r → {f : Refusal} → f ≡ no TrainingNumber → Trains n r space (Err f) space
     unfolding questions asks_few asks_number
-    too_high k = refused 15 0 (inr (h, inl (refl, (refl, λ l. omega arith))))
+    too_high k = refused TrainingNumber (inr (h, inl (refl, (refl, λ l. omega arith))))
 
-    pub too_short : r < c → length space < n → Trains n r space (Refused 10 0) space
+    pub too_short : r < c → length space < n → {f : Refusal} → f ≡ no Space → Trains n r space (Err f) space
     unfolding questions asks_few asks_number asks_room
-    too_short k l = refused 10 0 (inr (h, inr (omega arith, inl (refl, (refl, λ m. omega arith)))))
+    too_short k l = refused Space (inr (h, inr (omega arith, inl (refl, (refl, λ m. omega arith)))))
 
-    pub trained : {space' : List ℕ} → r < c → n ≤ length space → space' ≡ overwrite (arrangement n r) space → Trains n r space Written space'
+    pub trained : {space' : List ℕ} → r < c → n ≤ length space → space' ≡ overwrite (arrangement n r) space → Trains n r space (Ok tt) space'
     unfolding train_answer train_space
     trained k l f =
         let below : r < ways n 0 = omega arith in
@@ -57,7 +61,7 @@ module _ (n r : ℕ) (space : List ℕ) where
           asked = sym yes;
           answer = ap checked (sym yes);
           lent = f ∙ ap (λ a. written a (arrangement n r) space) (sym yes);
-          state = λ _. subst (λ t. IsState n (take n t)) (sym f) (front_state n r space below);
+          state = subst (λ t. IsState n (take n t)) (sym f) (front_state n r space below);
         }
 
 -- ---- a drawn number
@@ -66,31 +70,31 @@ pub some_count : (n : ℕ) {c : ℕ} → c ≡ ways n 0 → 0 < c
 some_count n e = omega (arith, ways_some n 0)
 
 module _ (n : ℕ) (g : Generator) (space : List ℕ) where
-  kept : (k : ℕ) {d : Drawn} → d ≡ record { trained = Refused k 0; generator = g } → DrawRefused n g.seed space k 0 → Draws n g.seed space d space
-  kept k e w =
-      let u = draw_refusal n g.seed space k 0 w in
+  kept : (q : Question) {d : Drawn} → d ≡ record { answer = Err (no q); generator = g } → DrawRefused n g.seed space (number_of q) 0 → Draws n g.seed space d space
+  kept q e w =
+      let u = draw_refusal n g.seed space (number_of q) 0 w in
       rw e (record {
-        asked = sym ((draw_refuses n g.seed space k 0).1 w);
+        asked = sym ((draw_refuses n g.seed space (number_of q) 0).1 w);
         answer = sym u.0;
         lent = sym u.1;
         advanced = sym u.2;
-        state = λ f. not_written f;
-        lasts = λ f. not_written f;
+        state = tt;
+        lasts = tt;
       })
 
-  pub drawn_too_many : {d : Drawn} → d ≡ record { trained = Refused 14 0; generator = g } → held < n → Draws n g.seed space d space
+  pub drawn_too_many : {d : Drawn} → d ≡ record { answer = Err (no TrainingSize); generator = g } → held < n → Draws n g.seed space d space
   unfolding questions asks_few
-  drawn_too_many e h = kept 14 e (inl (refl, (refl, λ l. omega arith)))
+  drawn_too_many e h = kept TrainingSize e (inl (refl, (refl, λ l. omega arith)))
 
   module _ (h : n ≤ held) where
-    pub drawn_from_zero : {d : Drawn} → d ≡ record { trained = Refused 15 0; generator = g } → g.seed ≡ 0 → Draws n g.seed space d space
+    pub drawn_from_zero : {d : Drawn} → d ≡ record { answer = Err (no TrainingNumber); generator = g } → g.seed ≡ 0 → Draws n g.seed space d space
     unfolding questions asks_few asks_seed
-    drawn_from_zero e z = kept 15 e (inr (h, inl (refl, (refl, λ m. m z))))
+    drawn_from_zero e z = kept TrainingNumber e (inr (h, inl (refl, (refl, λ m. m z))))
 
     module _ (m : ¬ (g.seed ≡ 0)) where
-      pub drawn_too_short : {d : Drawn} → d ≡ record { trained = Refused 10 0; generator = g } → length space < n → Draws n g.seed space d space
+      pub drawn_too_short : {d : Drawn} → d ≡ record { answer = Err (no Space); generator = g } → length space < n → Draws n g.seed space d space
       unfolding questions asks_few asks_seed asks_room
-      drawn_too_short e l = kept 10 e (inr (h, inr (m, inl (refl, (refl, λ k. omega arith)))))
+      drawn_too_short e l = kept Space e (inr (h, inr (m, inl (refl, (refl, λ k. omega arith)))))
 
       module _ (l : n ≤ length space) {c : ℕ} {next : Generator} (e : c ≡ ways n 0) (f : next.seed ≡ next_seed g.seed) where
         same : next.seed % c ≡ drawn_number n g.seed
@@ -101,7 +105,7 @@ module _ (n : ℕ) (g : Generator) (space : List ℕ) where
         drawn_numbered = record { small = h; number = subst (λ x. x < ways n 0) (sym same) (drawn_below n g.seed); room = l }
 
         pub drawn : {space' : List ℕ} → space' ≡ overwrite (arrangement n (next.seed % c)) space
-            → Draws n g.seed space (record { trained = Written; generator = next }) space'
+            → Draws n g.seed space (record { answer = Ok tt; generator = next }) space'
         unfolding draw_answer draw_space draw_seed
         drawn is =
             let yes : first_no (draw_questions n g.seed space) ≡ all_yes = (draw_accepts n g.seed space).1 (h, m, l) in
@@ -111,6 +115,6 @@ module _ (n : ℕ) (g : Generator) (space : List ℕ) where
               answer = ap checked (sym yes);
               lent = whole ∙ ap (λ a. written a (drawn_state n g.seed) space) (sym yes);
               advanced = f ∙ ap (λ a. moved a g.seed) (sym yes);
-              state = λ _. subst (λ t. IsState n (take n t)) (sym whole) (front_state n (drawn_number n g.seed) space (drawn_below n g.seed));
-              lasts = λ _. subst (λ x. x ≢ 0) (sym f) (next_some g.seed m);
+              state = subst (λ t. IsState n (take n t)) (sym whole) (front_state n (drawn_number n g.seed) space (drawn_below n g.seed));
+              lasts = subst (λ x. x ≢ 0) (sym f) (next_some g.seed m);
             }

@@ -4,91 +4,75 @@
 
 ghost use Rattle.std.specs.Prelude.{◌≡◌, suc, ◌<◌, length};
 ghost use Rattle.lists.specs.Lists.{overwrite};
+ghost use Rattle.lists.specs.Search.{nonzero};
 ghost use Rattle.blocks.specs.Loop.{top};
 ghost use Rattle.training.specs.Arrangement.{nth, picked, finish, arrangement};
 ghost use Rattle.training.specs.Placing.{Placing, part_of, Placed, Known, freeᵇ, Numbered};
 ghost use Rattle.training.specs.Answers.{Trains, Draws};
-ghost use Rattle.training.specs.declared.Trained.TheVariants.{Refused};
 
 use counts::HELD;
 use generator::Generator;
-
-// What both operations answer: the number and place of the first "no", or that the state was written.
-#[derive(Drop)]
-pub enum Trained {
-    Refused { number: u16, place: u16 },
-    Written,
-}
+use refusals::{Question, Refusal};
 
 // What a draw answers, and the generator for the next draw.
-#[derive(Drop)]
+#[derive(Clone, Copy, Debug, PartialEq, Eq)]
 pub struct Drawn {
-    pub trained: Trained,
+    pub answer: Result<(), Refusal>,
     pub generator: Generator,
 }
 
 // What a state on its way needs beside its supports: how many towers are grounded, and what is left of the number.
-#[derive(Drop)]
+#[derive(Clone, Copy, Debug, PartialEq, Eq)]
 struct Progress {
     grounded: usize,
     rest: u64,
 }
 
 // The state of n blocks of a given number, written over the first n entries.
-pub fn train(n: usize, r: u64, out: &mut [u16]) -> Trained
+pub fn train(n: usize, r: u64, out: &mut [u16]) -> Result<(), Refusal>
     ensures { Trains n r out.old result out.new }
 {
     if HELD < n {
-        return Trained::Refused {
-            number: 14,
-            place: 0,
-        };
+        return Err(Question::TrainingSize.refused());
     }
     if counts::count_of(n, 0) <= r {
-        return Trained::Refused {
-            number: 15,
-            place: 0,
-        };
+        return Err(Question::TrainingNumber.refused());
     }
     if out.len() < n {
-        return Trained::Refused {
-            number: 10,
-            place: 0,
-        };
+        return Err(Question::Space.refused());
     }
     arrange(n, r, out);
-    Trained::Written
+    Ok(())
 }
 
 // The state of n blocks of the number that a generator draws; a refusal gives the generator back as it was.
 pub fn draw(generator: Generator, n: usize, out: &mut [u16]) -> Drawn
     ensures { Draws n generator.seed out.old result out.new }
 {
-    let seed = generator.seed;
-    let next = generator.next();
     if HELD < n {
-        return refused(14, generator);
+        return refused(Question::TrainingSize, generator);
     }
-    if seed == 0 {
-        return refused(15, generator);
+    if generator.seed == 0 {
+        return refused(Question::TrainingNumber, generator);
     }
     if out.len() < n {
-        return refused(10, generator);
+        return refused(Question::Space, generator);
     }
+    let next = generator.next();
     let drawn = next.seed;
     arrange(n, drawn % counts::count_of(n, 0), out);
     Drawn {
-        trained: Trained::Written,
+        answer: Ok(()),
         generator: next,
     }
 }
 
 // A refused draw: the generator stays as it is.
-fn refused(number: u16, generator: Generator) -> Drawn
-    ensures { result ≡ record { trained = Refused number 0; generator = generator } }
+fn refused(question: Question, generator: Generator) -> Drawn
+    ensures { result ≡ record { answer = Err (record { question = question; place = 0 }); generator = generator } }
 {
     Drawn {
-        trained: Trained::Refused { number, place: 0 },
+        answer: Err(question.refused()),
         generator,
     }
 }
@@ -102,33 +86,31 @@ fn arrange(n: usize, r: u64, out: &mut [u16])
     let mut load = [0u16; HELD + 1];
     let state = &mut room[..n];
     place_all(state, &mut load, r);
-    lists::copy(state, &mut out[..n]);
+    out[..n].copy_from_slice(state);
 }
 
 // Takes the blocks in order.
-fn place_all(s: &mut [u16], load: &mut [u16], r: u64)
-    requires { Placing (length s.old) 0 r s.old load.old }
-    ensures { s.new ≡ finish (length s.old) (part_of (record { grounded = 0; rest = r }) s.old) }
+fn place_all(state: &mut [u16], load: &mut [u16], r: u64)
+    requires { Placing (length state.old) 0 r state.old load.old }
+    ensures { state.new ≡ finish (length state.old) (part_of (record { grounded = 0; rest = r }) state.old) }
 {
-    let mut p = Progress {
+    let mut progress = Progress {
         grounded: 0,
         rest: r,
     };
-    let mut m = s.len();
-    while 0 < m {
-        m -= 1;
-        p = place(s, load, m, p);
+    for loose in (0..state.len()).rev() {
+        progress = place(state, load, loose, progress);
     }
 }
 
-// The next block is taken; m towers are loose after it.
-fn place(s: &mut [u16], load: &mut [u16], m: usize, p: Progress) -> Progress
-    requires { Placing (suc m) p.grounded p.rest s.old load.old }
-    ensures { Placed m p s.old result s.new load.new }
+// The next block is taken; so many towers are loose after it.
+#[tactic(auto, using(crate::proofs::PlaceLaws::first_held, crate::proofs::PlaceLaws::second_held, crate::proofs::PlaceLaws::one_more_fits, crate::proofs::PlaceLaws::top_there, crate::proofs::PlaceLaws::top_scaled, crate::proofs::PlaceLaws::some_each, crate::proofs::PlaceLaws::top_within, crate::proofs::PlaceLaws::top_fits, crate::proofs::PlaceLaws::place_ground))]
+fn place(state: &mut [u16], load: &mut [u16], loose: usize, progress: Progress) -> Progress
+    requires { Placing (suc loose) progress.grounded progress.rest state.old load.old }
+    ensures { Placed loose progress state.old result state.new load.new }
 {
-    let grounded = p.grounded;
-    let rest = p.rest;
-    let here = counts::count_of(m, grounded + 1);
+    let Progress { grounded, rest } = progress;
+    let here = counts::count_of(loose, grounded + 1);
     if rest < here {
         return Progress {
             grounded: grounded + 1,
@@ -136,74 +118,67 @@ fn place(s: &mut [u16], load: &mut [u16], m: usize, p: Progress) -> Progress
         };
     }
     let over = rest - here;
-    let each = counts::count_of(m, grounded);
+    let each = counts::count_of(loose, grounded);
     let quotient = over / each;
     let remainder = over % each;
-    let b = s.len() - m;
-    let t = pick_top(s, load, b, quotient as usize);
-    s[b - 1] = t as u16;
-    load[t] = b as u16;
+    let block = state.len() - loose;
+    let top = pick_top(state, load, block, quotient as usize).unwrap();
+    state[block - 1] = top as u16;
+    load[top] = block as u16;
     Progress {
         grounded,
         rest: remainder,
     }
 }
 
-// Number q of the tops of the towers other than b's, in ascending order.
+// Number q of the tops of the towers other than the block's, in ascending order.
 #[tactic(auto, using(crate::proofs::TopLaws::picked_by))]
-fn pick_top(s: &[u16], load: &[u16], b: usize, q: usize) -> usize
-    requires { Known s.now load.now b }
-    ensures { result ≡ picked s.now b q }
+fn pick_top(state: &[u16], load: &[u16], block: usize, q: usize) -> Option<usize>
+    requires { Known state.now load.now block }
+    ensures { result ≡ nonzero (picked state.now block q) }
 {
-    let own = top_of(s, load, b);
-    nth_free(load, s.len(), own, q)
+    let own = top_of(state, load, block);
+    nth_free(load, state.len(), own, q)
 }
 
-// The top of b's tower, by climbing. Of the state its length is used alone.
-fn top_of(s: &[u16], load: &[u16], b: usize) -> usize
-    requires { Known s.now load.now b }
-    ensures { result ≡ top s.now (length s.now) b }
+// The top of the block's tower, by climbing. Of the state its length is used alone.
+fn top_of(state: &[u16], load: &[u16], block: usize) -> usize
+    requires { Known state.now load.now block }
+    ensures { result ≡ top state.now (length state.now) block }
 {
-    let mut k = s.len();
-    let mut c = b;
-    while 0 < k {
-        let x = lists::wide(load[c]);
-        if x == 0 {
-            return c;
+    let mut at = block;
+    for _ in 0..state.len() {
+        let above = usize::from(load[at]);
+        if above == 0 {
+            return at;
         }
-        c = x;
-        k -= 1;
+        at = above;
     }
-    c
+    at
 }
 
-// Number q of the blocks from 1 to n, other than `own`, on which nothing rests; 0 where there are not so many.
-fn nth_free(load: &[u16], n: usize, own: usize, q: usize) -> usize
+// Number q of the blocks from 1 to n, other than `own`, on which nothing rests.
+// A loop: by `filter(..).nth(q)` training takes 111 bytes more, and so more than tests/training.py lets it.
+fn nth_free(load: &[u16], n: usize, own: usize, q: usize) -> Option<usize>
     requires { n < length load.now }
-    ensures { result ≡ nth (freeᵇ load.now own) n q }
+    ensures { result ≡ nonzero (nth (freeᵇ load.now own) n q) }
 {
     let mut passed = 0;
-    let mut i = 0;
-    while i < n {
-        i += 1;
-        if !is_free(load, own, i) {
-            continue;
+    for t in 1..n + 1 {
+        if is_free(load, own, t) {
+            if passed == q {
+                return Some(t);
+            }
+            passed += 1;
         }
-        if passed == q {
-            return i;
-        }
-        passed += 1;
     }
-    0
+    None
 }
 
-// Whether nothing rests on t, and t is not `own`.
-fn is_free(load: &[u16], own: usize, t: usize) -> bool
-    requires { t < length load.now }
-    ensures { result ≡ freeᵇ load.now own t }
+// Whether nothing rests on the block, and it is not `own`.
+fn is_free(load: &[u16], own: usize, block: usize) -> bool
+    requires { block < length load.now }
+    ensures { result ≡ freeᵇ load.now own block }
 {
-    if t == own {
-        return false;
-    }
-    load[t] == 0
+    block != own && load[block] == 0
 }

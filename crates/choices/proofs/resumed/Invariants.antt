@@ -1,9 +1,7 @@
 -- `resumed` meets its contract. The invariant: what is left to be looked at has the same last misplaced block. Assumes nothing.
-use Rattle.choices.proofs.SeenLaws.{Backward}
+use Rattle.std.proofs.Common.{◌≡◌, ◌≤◌}
+use Rattle.choices.specs.Visits.{kept_of, last_wrong}
 use Rattle.choices.proofs.resumed.Given as goal
 
 abbrev pub invariant-loop-k : goal.invariant-loop-k
-invariant-loop-k l = Backward l.yard l.k
-
-abbrev pub decreases-loop-k : goal.decreases-loop-k
-decreases-loop-k l = l.k
+invariant-loop-k l = (l.k ≤ kept_of l.yard) × (last_wrong l.yard l.k ≡ last_wrong l.yard (kept_of l.yard))

@@ -1,11 +1,8 @@
 -- `unlock` meets its contract: the loop is walked, and the walk cut at its lowest block. Assumes nothing.
 use borrow.Author.Rules.{rules}
 use Rattle.rows.proofs.RowLaws.{scaled}
-use Rattle.choices.proofs.UnlockLaws.{span_within, low_in, unlocked}
+use Rattle.choices.proofs.UnlockLaws.{low_in, unlocked}
 use Rattle.choices.proofs.unlock.Goals as goal
-
-pub lowest_in-low-requires : goal.lowest_in-low-requires
-lowest_in-low-requires c = span_within c.requires c.walk-span.ensures
 
 pub offset_bounds-yard-low : goal.offset_bounds-yard-low
 offset_bounds-yard-low c = search (rules, scaled, low_in)

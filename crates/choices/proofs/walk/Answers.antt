@@ -54,4 +54,4 @@ pub bounds-yard-b-after-loop-yard : goal.bounds-yard-b-after-loop-yard
 bounds-yard-b-after-loop-yard c = search (rules, block_in)
 
 pub returns : goal.returns
-returns c = walked c.loop-yard.invariant c.is_seen.ensures (ap not c.loop-yard-test.false) c.wide.ensures
+returns c = walked c.loop-yard.invariant c.is_seen.ensures (ap not c.loop-yard-test.false) c.from.ensures

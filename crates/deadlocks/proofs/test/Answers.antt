@@ -1,32 +1,19 @@
--- `seek` meets its contract: a copy of the state is built, and looked at. Assumes nothing.
+-- `test` meets its contract: a copy of the state is built, and looked at. Assumes nothing.
 use borrow.Author.Rules.{rules}
 use mathlib.Core.Path.{ap, ◌∙◌}
 use lib.ListN.{length}
 use lib.Seq.{length-take-le}
 use Rattle.deadlocks.proofs.SeekLaws.{may_begin, first_steppable, loose_may, clean_way, refittable, lookable, look_way}
-use Rattle.deadlocks.proofs.seek.Goals as goal
+use Rattle.deadlocks.proofs.test.Goals as goal
 
 pub slice_bounds-cur-end : goal.slice_bounds-cur-end
 slice_bounds-cur-end c = search (rules, length-take-le)
 
 pub begin-requires : goal.begin-requires
-begin-requires c = may_begin c.requires (search (rules, length-take-le)) (search rules)
+begin-requires c = may_begin c.requires (search (rules, length-take-le))
 
 pub run-requires : goal.run-requires
 run-requires c = search (rules, first_steppable)
 
 pub lowest-requires : goal.lowest-requires
 lowest-requires c = loose_may c.requires c.begin.ensures c.run.ensures
-
-pub returns-then-lowest-eq0 : goal.returns-then-lowest-eq0
-returns-then-lowest-eq0 c = clean_way c.requires c.begin.ensures c.run.ensures c.lowest.ensures c.if-lowest-eq0.true
-
-pub fit-requires : goal.fit-requires
-fit-requires c = refittable c.requires c.begin.ensures c.run.ensures
-
-pub look-requires : goal.look-requires
-look-requires c = lookable c.requires c.begin.ensures c.run.ensures (c.run.auto.cur ∙ ap length c.begin.ensures.state) c.fit.ensures
-
-pub returns : goal.returns
-returns c = look_way c.requires c.begin.ensures c.run.ensures (c.run.auto.cur ∙ ap length c.begin.ensures.state)
-    c.fit.ensures c.look.ensures

@@ -1,9 +1,6 @@
 use borrow.Author.Rules.{rules}
-use Rattle.lengths.proofs.MeasureLaws.{resting_begin, support_within, resting_next, resting_found, resting_all}
+use Rattle.lengths.proofs.MeasureLaws.{support_within, resting_next, resting_found, resting_all}
 use Rattle.lengths.proofs.first_overhang.Goals as goal
-
-pub loop-i-init : goal.loop-i-init
-loop-i-init c = search (rules, resting_begin)
 
 pub too_long-requires : goal.too_long-requires
 too_long-requires c = search (rules, support_within)

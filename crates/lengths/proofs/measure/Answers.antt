@@ -6,12 +6,6 @@ use Rattle.lengths.proofs.measure.Goals as goal
 pub returns-then-lengths-initial : goal.returns-then-lengths-initial
 returns-then-lengths-initial c = search (rules, count_way)
 
-pub first_overhang-requires : goal.first_overhang-requires
-first_overhang-requires c = search (rules, initial_measurable)
-
-pub first_overhang-requires-2 : goal.first_overhang-requires-2
-first_overhang-requires-2 c = search (rules, goal_measurable)
-
 pub overflow_cast-block : goal.overflow_cast-block
 overflow_cast-block c = overhang_fits (initial_measurable c.requires (search rules)) c.in-Some.ensures
 

@@ -1,5 +1,5 @@
 use borrow.Author.Rules.{rules}
-use Rattle.problem.proofs.FillLaws.{filling_begin, entry_in, entry_scaled, filling_found, filling_next, filling_end}
+use Rattle.problem.proofs.FillLaws.{filling_begin, entry_in, filling_found, filling_next, filling_end}
 use Rattle.problem.proofs.fill_loads.Goals as goal
 
 pub loop-i-init : goal.loop-i-init
@@ -10,9 +10,6 @@ taken-requires c = search (rules, entry_in)
 
 pub returns-then-taken : goal.returns-then-taken
 returns-then-taken c = search (rules, filling_found)
-
-pub offset_bounds-load-x : goal.offset_bounds-load-x
-offset_bounds-load-x c = search (rules, entry_scaled)
 
 pub bounds-load-x : goal.bounds-load-x
 bounds-load-x c = search (rules, entry_in)

@@ -1,6 +1,6 @@
 -- Each question is asked by a function of its own; the ways out are laws. Assumes nothing.
 use borrow.Author.Rules.{rules}
-use Rattle.problem.proofs.SurveyLaws.{outside_fits, shared_fits, lowest_fits, fillable, may_climb, outside_way, shared_way, floating_way, sound_way}
+use Rattle.problem.proofs.SurveyLaws.{outside_fits, shared_fits, lowest_fits, outside_way, shared_way, floating_way, sound_way}
 use Rattle.problem.proofs.survey.Goals as goal
 
 pub overflow_cast-result : goal.overflow_cast-result
@@ -8,12 +8,6 @@ overflow_cast-result c = search (rules, outside_fits)
 
 pub returns-in-Some : goal.returns-in-Some
 returns-in-Some c = search (rules, outside_way)
-
-pub fill_loads-requires : goal.fill_loads-requires
-fill_loads-requires c = search (rules, fillable)
-
-pub climb-requires : goal.climb-requires
-climb-requires c = search (rules, may_climb)
 
 pub overflow_cast-result-in-Some-fill_loads : goal.overflow_cast-result-in-Some-fill_loads
 overflow_cast-result-in-Some-fill_loads c = search (rules, shared_fits)

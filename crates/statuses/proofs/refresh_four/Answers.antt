@@ -1,43 +1,19 @@
 -- `refresh_four` meets its contract: two blocks are decided anew, or four. Assumes nothing.
-use borrow.Author.Rules.{rules}
-use Rattle.statuses.proofs.RefreshLaws.{first, block_in, onto_high, done, may_offer, may_admit, may_offer_next, two, four}
+use mathlib.Core.Path.{refl}
+use Rattle.statuses.proofs.RefreshLaws.{may_offer, two, may_admit, may_offer_next, four}
 use Rattle.statuses.proofs.refresh_four.Goals as goal
 
-pub refresh-requires : goal.refresh-requires
-refresh-requires c = search (rules, first)
-
-pub onto-requires : goal.onto-requires
-onto-requires c = search (rules, block_in)
-
-pub offer-requires : goal.offer-requires
-offer-requires c =
-    let w = c.requires in
-    may_offer w c.refresh.ensures (onto_high w w.moved_high c.onto.ensures)
+pub offer_onto-requires : goal.offer_onto-requires
+offer_onto-requires c = may_offer c.requires c.refresh.ensures
 
 pub returns-then-u-eq0 : goal.returns-then-u-eq0
-returns-then-u-eq0 c =
-    let w = c.requires in
-    let one = done w (onto_high w w.moved_high c.onto.ensures) c.offer.ensures in
-    two w c.onto.ensures c.refresh.ensures one c.if-u-eq0.true
+returns-then-u-eq0 c = two c.requires c.refresh.ensures c.offer_onto.ensures refl c.if-u-eq0.true
 
 pub admit-requires : goal.admit-requires
-admit-requires c =
-    let w = c.requires in
-    let one = done w (onto_high w w.moved_high c.onto.ensures) c.offer.ensures in
-    may_admit w c.refresh.ensures one
+admit-requires c = may_admit c.requires c.refresh.ensures c.offer_onto.ensures refl
 
-pub onto-requires-2 : goal.onto-requires-2
-onto-requires-2 c = search (rules, block_in)
-
-pub offer-requires-2 : goal.offer-requires-2
-offer-requires-2 c =
-    let w = c.requires in
-    let one = done w (onto_high w w.moved_high c.onto.ensures) c.offer.ensures in
-    may_offer_next w c.refresh.ensures one c.admit.ensures (onto_high w w.old_high c.onto-2.ensures)
+pub offer_onto-requires-2 : goal.offer_onto-requires-2
+offer_onto-requires-2 c = may_offer_next c.requires c.refresh.ensures c.offer_onto.ensures refl c.admit.ensures
 
 pub returns : goal.returns
-returns c =
-    let w = c.requires in
-    let one = done w (onto_high w w.moved_high c.onto.ensures) c.offer.ensures in
-    let last = done w (onto_high w w.old_high c.onto-2.ensures) c.offer-2.ensures in
-    four w c.onto.ensures c.refresh.ensures one c.onto-2.ensures c.if-u-eq0.false c.admit.ensures last
+returns c = four c.requires c.refresh.ensures c.offer_onto.ensures refl c.admit.ensures c.if-u-eq0.false c.offer_onto-2.ensures refl

@@ -1,10 +1,7 @@
 -- `trace` meets its contract: nothing is asked of the towers, or they follow the move. Assumes nothing.
 use borrow.Author.Rules.{rules}
-use Rattle.statuses.proofs.TurnLaws.{untraced, shifting, raisable, traced}
+use Rattle.statuses.proofs.TurnLaws.{shifting, raisable, traced}
 use Rattle.statuses.proofs.trace.Goals as goal
-
-pub returns-then-not-walks : goal.returns-then-not-walks
-returns-then-not-walks c = search (rules, untraced)
 
 pub shift-requires : goal.shift-requires
 shift-requires c = search (rules, shifting)

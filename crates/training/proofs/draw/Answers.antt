@@ -6,8 +6,8 @@ use Rattle.training.proofs.draw.Goals as goal
 pub returns-then-n-gt-HELD : goal.returns-then-n-gt-HELD
 returns-then-n-gt-HELD c = search (rules, drawn_too_many)
 
-pub returns-then-seed-eq0 : goal.returns-then-seed-eq0
-returns-then-seed-eq0 c = search (rules, drawn_from_zero)
+pub returns-then-generator-eq0 : goal.returns-then-generator-eq0
+returns-then-generator-eq0 c = search (rules, drawn_from_zero)
 
 pub returns-then-out-n : goal.returns-then-out-n
 returns-then-out-n c = search (rules, drawn_too_short)

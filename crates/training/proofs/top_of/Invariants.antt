@@ -1,9 +1,6 @@
--- `top_of` meets its contract. The invariant: k steps of the climb are left, at c. Assumes nothing.
+-- `top_of` meets its contract. The invariant: as many steps of the climb as turns are left, at `at`. Assumes nothing.
 use Rattle.training.proofs.TopLaws.{Climbing}
 use Rattle.training.proofs.top_of.Given as goal
 
-abbrev pub invariant-loop-k : goal.invariant-loop-k
-invariant-loop-k l = Climbing l.s l.b l.k l.c
-
-abbrev pub decreases-loop-k : goal.decreases-loop-k
-decreases-loop-k l = l.k
+abbrev pub invariant-loop : goal.invariant-loop
+invariant-loop l = Climbing l.state l.block l.end l.counter l.at

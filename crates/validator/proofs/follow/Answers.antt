@@ -1,15 +1,6 @@
 use borrow.Author.Rules.{rules}
-use Rattle.validator.proofs.FollowLaws.{begin, pair_within, first_within, bad_way, movable, next, differs_way, arrives_way}
+use Rattle.validator.proofs.FollowLaws.{bad_way, movable, next, differs_way, arrives_way}
 use Rattle.validator.proofs.follow.Goals as goal
-
-pub loop-k-init : goal.loop-k-init
-loop-k-init c = search (rules, begin)
-
-pub bounds-moves-k : goal.bounds-moves-k
-bounds-moves-k c = search (rules, first_within)
-
-pub bounds-moves-k-in-loop-k : goal.bounds-moves-k-in-loop-k
-bounds-moves-k-in-loop-k c = search (rules, pair_within)
 
 pub returns-in-Err : goal.returns-in-Err
 returns-in-Err c = bad_way c.loop-k.invariant.0 (search rules) c.from-a.ensures c.from-x.ensures c.in-Err.ensures
