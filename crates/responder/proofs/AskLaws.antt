@@ -8,14 +8,12 @@ use Rattle.std.specs.Prelude.{Option, Result, Ok, Err}
 use Rattle.std.specs.Bool.{then_some}
 use Rattle.std.specs.Borrow.{Bor}
 use Rattle.std.specs.Result.{MatchResult, IsErrAnd}
-use native.Mathlib.Omega.{arith}
 use lib.ListN.{length, take}
 use Rattle.blocks.specs.State.{most}
 use Rattle.blocks.specs.Length.{given}
 use Rattle.blocks.specs.Sheet.{measured_by, office}
 use Rattle.lengths.specs.Checks.{given_in}
 use Rattle.sheets.specs.declared.Whole.{Whole}
-use Rattle.sheets.specs.declared.Unread.{Unread}
 use Rattle.sheets.specs.declared.Entries.{Entries}
 use Rattle.sheets.specs.Sheets.{Sheet, length_count}
 use Rattle.sheets.specs.Reads.{ReadsSheet}
