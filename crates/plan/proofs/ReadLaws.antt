@@ -16,10 +16,6 @@ module _ (input : List ℕ) {n : ℕ} (within : n ≤ enough) (room : enough ≤
   pub front : n ≡ length (take n input)
   front = sym (length-take-le n input (omega (arith, within, room)))
 
-  -- what is put behind them leaves them as they were
-  pub kept : (rest : List ℕ) → take n (take n input ++ rest) ≡ take n input
-  kept rest = ap (λ i. take i (take n input ++ rest)) front ∙ take-append_seam (take n input) rest
-
   -- all that are wanted have room
   module _ {more : ℕ} (all : more ≡ wanted (take n input)) where
     within_all : n + more ≤ enough
@@ -39,5 +35,5 @@ module _ (input : List ℕ) {n : ℕ} (within : n ≤ enough) (room : enough ≤
     pub next_fits : n + got < 2 ^ 64
     next_fits = omega (arith, next_within, enough_is)
 
-    pub fewer_left : got ≢ 0 → enough - (n + got) < enough - n
+    pub fewer_left : 0 < got → enough - (n + got) < enough - n
     fewer_left one = omega (arith, next_within, one)

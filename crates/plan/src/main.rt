@@ -2,7 +2,7 @@
 
 #![tactic(auto)]
 
-ghost use Rattle.std.specs.Prelude.{◌≤◌, ◌≡◌, length, take};
+ghost use Rattle.std.specs.Prelude.{◌≤◌, ◌<◌, ◌≡◌, length, take, IfSome};
 ghost use Rattle.plan.specs.Counts.{IsPrefixLen};
 ghost use Rattle.responder.specs.Wanted.{wanted};
 ghost use Rattle.responder.specs.Bounds.{enough};
@@ -25,30 +25,26 @@ fn read_input(stdin: &mut Stdin, input: &mut [u8]) -> usize
     ensures { IsPrefixLen result input.new }
 {
     let mut n = 0;
-    loop {
-        let got = read_more(stdin, input, n);
-        if got == 0 {
-            return n;
-        }
+    while let Some(got) = read_more(stdin, input, n) {
         n += got;
     }
+    n
 }
 
 // One read of what can still matter behind the first n bytes: how many came. None do where the answer is decided, where the input ends and where the
 // read fails.
-fn read_more(stdin: &mut Stdin, input: &mut [u8], n: usize) -> usize
+fn read_more(stdin: &mut Stdin, input: &mut [u8], n: usize) -> Option<usize>
     requires n_le_enough { n ≤ enough }
     requires enough_in_bounds { enough ≤ length input.old }
-    ensures upper_bound { result ≤ wanted (take n input.old) }
+    ensures some { IfSome result (λ got. (0 < got) × (got ≤ wanted (take n input.old))) }
     ensures input_unchanged { take n input.new ≡ take n input.old }
 {
     let more = responder::wanted(&input[..n]);
     if more == 0 {
-        return 0;
+        return None;
     }
-    let end = n + more;
-    match stdin.read(&mut input[n..end]) {
-        Ok(got) => got,
-        Err(_) => 0,
+    match stdin.read(&mut input[n..n + more]) {
+        Ok(got) if got > 0 => Some(got),
+        _ => None,
     }
 }

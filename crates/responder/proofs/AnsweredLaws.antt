@@ -1,7 +1,7 @@
 -- What is answered to a sheet that was read is the definition's answer to the input: a law for each case, and one for all. Assumes nothing.
 use Prim.Native.Nat.{ℕ, ◌+◌, ◌*◌, ◌≤◌}
 use mathlib.Core.Path.{◌≡◌, refl, sym, ◌∙◌, ap, subst}
-use mathlib.Core.Logic.{◌⊎◌, inl, inr, ◌≢◌}
+use mathlib.Core.Logic.{inl, inr, ◌≢◌}
 use mathlib.Core.Bool.{Bool, cond}
 use mathlib.Core.List.{List, [], ◌∷◌, ◌++◌}
 use mathlib.Core.Option.{none}
@@ -13,7 +13,7 @@ use Rattle.blocks.specs.Question.{no', first_no, AllYes, FirstNo, IsMethod, asks
 use Rattle.blocks.specs.Length.{given}
 use Rattle.blocks.specs.Sheet.{Sheet, measured_by, office, sheet_questions, plan_questions}
 use Rattle.blocks.proofs.SheetLaws.{late}
-use Rattle.lists.proofs.ReflectLaws.{Reflects, holds, fails, same?}
+use Rattle.lists.proofs.ReflectLaws.{Reflects, holds, fails}
 use Rattle.records.specs.There.{AllThere}
 use Rattle.records.specs.declared.Kind.TheVariants.{Nw, Gl, Ln}
 use Rattle.records.proofs.ThereLaws.{all_there, first_missing}
@@ -29,10 +29,9 @@ use Rattle.sheets.proofs.SheetLaws as read
 use Rattle.refusals.specs.Refusals.{number_of}
 use Rattle.refusals.specs.declared.Refusal.{Refusal}
 use Rattle.planner.specs.Answers.{Answer, Plans}
-use Rattle.planner.specs.declared.Planned.{Planned}
 use Rattle.responder.specs.Responses.{asks_nows, asks_goals, asks_length_records, asks_tail, record_questions, sheet_in, lent, program_questions}
 use Rattle.responder.specs.Responses.{refusal_bytes, plan_records, reply, sheet_response, response_by, response_to}
-use Rattle.responder.specs.Answers.{no_method, too_many, no_record, refused_as, refusal_of, reply_of, Writable, Answered}
+use Rattle.responder.specs.Answers.{no_method, too_many, no_record, refused_as, refusal_of, Answered}
 use Rattle.responder.proofs.BehindLaws.{once, without_yes, without_room}
 use Rattle.responder.proofs.DecidedLaws.{end_room, method_reflects, middle, middle_decides, sheet_refuses}
 use Rattle.responder.proofs.PlannedLaws.{made_yes, made_records, made_writable}

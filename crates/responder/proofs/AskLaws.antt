@@ -8,14 +8,12 @@ use Rattle.std.specs.Prelude.{Option, Result, Ok, Err}
 use Rattle.std.specs.Bool.{then_some}
 use Rattle.std.specs.Borrow.{Bor}
 use Rattle.std.specs.Result.{MatchResult, IsErrAnd}
-use native.Mathlib.Omega.{arith}
 use lib.ListN.{length, take}
 use Rattle.blocks.specs.State.{most}
 use Rattle.blocks.specs.Length.{given}
 use Rattle.blocks.specs.Sheet.{measured_by, office}
 use Rattle.lengths.specs.Checks.{given_in}
 use Rattle.sheets.specs.declared.Whole.{Whole}
-use Rattle.sheets.specs.declared.Unread.{Unread}
 use Rattle.sheets.specs.declared.Entries.{Entries}
 use Rattle.sheets.specs.Sheets.{Sheet, length_count}
 use Rattle.sheets.specs.Reads.{ReadsSheet}
@@ -25,29 +23,26 @@ use Rattle.planner.specs.Answers.{Answer, Plans}
 use Rattle.responder.specs.Answers.{no_record, refused_as, refusal_of, Answered}
 use Rattle.responder.proofs.AnsweredLaws.{unread_answered, tail_answered, plan_answered}
 
-module _ {bytes : List ℕ} {entries entries' : Entries} {sheet : Sheet} (w : ReadsSheet bytes 0 entries sheet entries') where
-  -- ---- what was read, by what became of its error
+-- ---- what was read, and what was made of it by `refusal_of`
 
-  pub whole_read : {s : Whole} → MatchResult sheet (λ x. ◌≡◌ {A = Result Whole Refusal} (Ok s) (Ok x)) (λ u. IsErrAnd {T = Whole} (Ok s) (λ q. q ≡ refusal_of u))
-      → ReadsSheet bytes 0 entries (Ok s) entries'
+abbrev MadeOf : Sheet → Result Whole Refusal → Type 0
+MadeOf sheet r = MatchResult sheet (λ x. r ≡ Ok x) (λ u. IsErrAnd r (λ q. q ≡ refusal_of u))
+
+module _ {bytes : List ℕ} {entries entries' : Entries} {sheet : Sheet} (w : ReadsSheet bytes 0 entries sheet entries') where
+  pub whole_read : {s : Whole} → MadeOf sheet (Ok s) → ReadsSheet bytes 0 entries (Ok s) entries'
   whole_read {s} m = subst (λ t. ReadsSheet bytes 0 entries t entries') (by sheet m) w
     where
-      by : (t : Sheet) → MatchResult t (λ x. ◌≡◌ {A = Result Whole Refusal} (Ok s) (Ok x)) (λ u. IsErrAnd {T = Whole} (Ok s) (λ q. q ≡ refusal_of u)) → t ≡ Ok s
+      by : (t : Sheet) → MadeOf t (Ok s) → t ≡ Ok s
       by (Ok x) e = let same : s ≡ x = cc in ap Ok (sym same)
       by (Err u) e = absurd e
 
-  pub whole_small : (s : Whole) → MatchResult sheet (λ x. ◌≡◌ {A = Result Whole Refusal} (Ok s) (Ok x)) (λ u. IsErrAnd {T = Whole} (Ok s) (λ q. q ≡ refusal_of u))
-      → s.n ≤ most
+  pub whole_small : (s : Whole) → MadeOf sheet (Ok s) → s.n ≤ most
   whole_small s m = read.whole_small (whole_read m) refl
 
-  pub unread_way : {q : Refusal}
-      → MatchResult sheet (λ x. ◌≡◌ {A = Result Whole Refusal} (Err q) (Ok x)) (λ u. IsErrAnd {T = Whole} (Err q) (λ r. r ≡ refusal_of u))
-      → (space : List ℕ) → Answered bytes (Err q) space
+  pub unread_way : {q : Refusal} → MadeOf sheet (Err q) → (space : List ℕ) → Answered bytes (Err q) space
   unread_way {q} m space = by sheet w m
     where
-      by : (t : Sheet) → ReadsSheet bytes 0 entries t entries'
-          → MatchResult t (λ x. ◌≡◌ {A = Result Whole Refusal} (Err q) (Ok x)) (λ u. IsErrAnd {T = Whole} (Err q) (λ r. r ≡ refusal_of u))
-          → Answered bytes (Err q) space
+      by : (t : Sheet) → ReadsSheet bytes 0 entries t entries' → MadeOf t (Err q) → Answered bytes (Err q) space
       by (Ok x) v e = absurd cc
       by (Err u) v e = subst (λ r. Answered bytes (Err r) space) (sym e) (unread_answered v space)
 

@@ -14,7 +14,6 @@ use Rattle.blocks.specs.Sheet.{Sheet, office}
 use Rattle.blocks.specs.Answer.{plan_for, plan_answer}
 use Rattle.blocks.proofs.SheetLaws.{plan_among}
 use Rattle.lists.proofs.ReflectLaws.{Reflects, holds, fails, to_true, ltb_reflects}
-use Rattle.refusals.specs.declared.Refusal.{Refusal}
 use Rattle.planner.specs.Answers.{Answer}
 use Rattle.records.specs.Marks.{marks, mark_of, size}
 use Rattle.records.specs.Records.{record_at, record_bytes, has_record, field_of}

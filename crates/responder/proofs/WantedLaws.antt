@@ -1,10 +1,9 @@
 -- The sums and the ways out of `decided_by` and of `wanted`. Assumes nothing.
 use Prim.Native.Nat.{ℕ, ◌+◌, ◌-◌, ◌*◌, ◌^◌, ◌≤◌, ◌<◌}
-use mathlib.Core.Path.{◌≡◌, refl, sym, ◌∙◌, ap, ap₂}
+use mathlib.Core.Path.{◌≡◌, refl, sym, ◌∙◌, ap}
 use mathlib.Core.Bool.{Bool, true, false, not}
 use mathlib.Core.List.{List}
-use Rattle.std.specs.Prelude.{Option, Some, None, Result, Ok, Err, is_err}
-use native.Mathlib.Nat.{mul-le-mul_left}
+use Rattle.std.specs.Prelude.{Some, None, Result, Ok, Err, is_err}
 use native.Mathlib.Omega.{arith}
 use borrow.Author.Tests.{lt-ltb, le-ltb}
 use lib.Dec.{ltb}
@@ -15,12 +14,9 @@ use Rattle.refusals.specs.declared.Refusal.{Refusal}
 use Rattle.planner.specs.Answers.{named_as, Names}
 use Rattle.planner.specs.declared.Method.{Method}
 use Rattle.records.specs.Marks.{size}
-use Rattle.records.specs.declared.Kind.{Kind}
 use Rattle.records.specs.declared.Kind.TheVariants.{Hd, Nw}
-use Rattle.records.proofs.MarkLaws.{fields_high}
 use Rattle.sheets.specs.declared.Head.{Head}
 use Rattle.sheets.specs.declared.Whole.{Whole}
-use Rattle.sheets.specs.declared.Unread.TheVariants.{Headless, Long, Broken}
 use Rattle.sheets.specs.declared.Entries.{Entries}
 use Rattle.sheets.specs.Sheets.{head_at, length_count, end_at, sheet_at}
 use Rattle.sheets.specs.Reads.{ReadsSheet}

@@ -5,8 +5,8 @@ use lib.ListN.{length}
 use Rattle.responder.specs.Bounds.{enough}
 use Rattle.plan.proofs.read_input.Given as goal
 
-abbrev pub invariant-loop-n : goal.invariant-loop-n
-invariant-loop-n l = (l.n ≤ enough) × (enough ≤ length l.input) × (length l.input ≡ length l.initial.input)
+abbrev pub invariant-loop-got : goal.invariant-loop-got
+invariant-loop-got l = (l.n ≤ enough) × (enough ≤ length l.input) × (length l.input ≡ length l.initial.input)
 
-abbrev pub decreases-loop-n : goal.decreases-loop-n
-decreases-loop-n l = enough - l.n
+abbrev pub decreases-loop-got : goal.decreases-loop-got
+decreases-loop-got l = enough - l.n

@@ -1,6 +1,6 @@
 -- `write_answer` meets its contract: one law for each case. Assumes nothing.
 use borrow.Author.Rules.{rules}
-use Rattle.responder.proofs.ReplyLaws.{no_room, plan_room, refused_written, count_fits, misplaced_fits, moves_fit, plan_written}
+use Rattle.responder.proofs.ReplyLaws.{no_room, refused_written, plan_written}
 use Rattle.responder.proofs.write_answer.Goals as goal
 
 pub put_record-requires : goal.put_record-requires
