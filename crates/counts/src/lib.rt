@@ -9,7 +9,8 @@ ghost use Rattle.counts.specs.Table.{EvenCounts};
 // The most towers, loose and grounded together, whose count is answered.
 pub const HELD: usize = 16;
 
-// The counts for n loose towers and k grounded ones where n is even, row after row by n, in each row by k.
+// The counts for n loose towers and k grounded ones where n is even, row after row by n, in each row by k. A constant, the form that document 01 names
+// for them.
 const TABLE: [u64; 81] = [
     1,
     1,

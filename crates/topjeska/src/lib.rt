@@ -239,7 +239,7 @@ fn call_for(options: u16, method: u16) -> Call
     }
 }
 
-// The answers of the operations in the documents' numbers. The first two are 0 and 0, or those of the first "no".
+// The answers of the operations in the documents' numbers: those of the first "no", or 0 and 0.
 impl<A: Drop> From<Result<A, Refusal>> for CheckAnswer {
     ghost from_gives = { λ asked answer. as_check answer ≡ checked (asked_of asked) };
 

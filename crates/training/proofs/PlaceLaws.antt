@@ -135,3 +135,6 @@ module _ {m : ℕ} {p : Progress} {s : State} {l : List ℕ} (w : Placing (suc m
 
   pub one_more_fits : p.grounded + 1 < 2 ^ 64
   one_more_fits = omega (arith, first_held)
+
+-- what the code asks on the way, and where the block is grounded
+pub ruleset place_facts = (first_held, second_held, one_more_fits, top_there, top_scaled, some_each, top_within, top_fits, place_ground)

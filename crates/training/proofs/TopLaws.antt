@@ -28,9 +28,6 @@ pub record Climbing (s : State) (b n i c : ℕ) : Type 0 where
   pub block : Block s c
   pub same : top s (n - i) c ≡ top s (length s) b
 
-pub climb_begin : {s : State} {l : List ℕ} {b n : ℕ} → Known s l b → n ≡ length s → Climbing s b n 0 b
-climb_begin {s} {l} {b} {n} w e = record { block = w.block; same = ap (λ k. top s k b) (let f : n - 0 ≡ length s = omega arith in f) }
-
 module _ {s : State} {l : List ℕ} {b n i c x : ℕ} (v : Known s l b) (w : Climbing s b n i c) (e : x ≡ get_or l c 0) where
   is : x ≡ load s c
   is = e ∙ v.loads.at c w.block.low w.block.high

@@ -104,7 +104,7 @@ fn place_all(state: &mut [u16], load: &mut [u16], r: u64)
 }
 
 // The next block is taken; so many towers are loose after it.
-#[tactic(auto, using(crate::proofs::PlaceLaws::first_held, crate::proofs::PlaceLaws::second_held, crate::proofs::PlaceLaws::one_more_fits, crate::proofs::PlaceLaws::top_there, crate::proofs::PlaceLaws::top_scaled, crate::proofs::PlaceLaws::some_each, crate::proofs::PlaceLaws::top_within, crate::proofs::PlaceLaws::top_fits, crate::proofs::PlaceLaws::place_ground))]
+#[tactic(auto, using(crate::proofs::PlaceLaws::place_facts))]
 fn place(state: &mut [u16], load: &mut [u16], loose: usize, progress: Progress) -> Progress
     requires { Placing (suc loose) progress.grounded progress.rest state.old load.old }
     ensures { Placed loose progress state.old result state.new load.new }

@@ -1,9 +1,6 @@
 use borrow.Author.Rules.{rules}
-use Rattle.training.proofs.TopLaws.{climb_begin, climb_top, climb_next, climb_end}
+use Rattle.training.proofs.TopLaws.{climb_top, climb_next, climb_end}
 use Rattle.training.proofs.top_of.Goals as goal
-
-pub loop-init : goal.loop-init
-loop-init c = search (rules, climb_begin)
 
 pub returns-then-above-eq0 : goal.returns-then-above-eq0
 returns-then-above-eq0 c = search (rules, climb_top)
