@@ -35,7 +35,7 @@ use Rattle.refusals.specs.declared.Question.{Question}
 use Rattle.lengths.specs.Checks.{Examines}
 use Rattle.lengths.proofs.ExamineLaws.{accepted, refused_by}
 use Rattle.runs.proofs.LentLaws.{unvisited}
-use Rattle.planner.specs.Answers.{answer_of, as_method, named_as, Names, call_of, beyondᵇ, Plans, Solvable, Ran, Solved}
+use Rattle.planner.specs.Answers.{answer_of, as_method, Names, call_of, beyondᵇ, Plans, Solvable, Ran, Solved}
 use Rattle.planner.proofs.BeyondLaws.{beyond_no, beyond_yes}
 use Rattle.planner.specs.declared.Call as calls
 use Rattle.planner.specs.declared.Method as declared
@@ -73,7 +73,7 @@ no_method n a b c e = record { method = by n a b c; refused = λ q f. sym (err_s
     by (suc (suc (suc zero))) a b c = absurd (c refl)
     by (suc (suc (suc (suc j)))) a b c = refl
 
-    err_same : {p q : Refusal} → Err {T = declared.Method} p ≡ Err q → p ≡ q
+    err_same : {p q : Refusal} → ◌≡◌ {A = Result declared.Method Refusal} (Err p) (Err q) → p ≡ q
     err_same f = cc
 
 -- one of the three
@@ -132,20 +132,20 @@ module _ (o : calls.Call) (h : Sheet) (space : List ℕ) (by : declared.Method) 
       let w = beyond_no o.panel (length h.initial) (sym b ∙ f) in
       refusal_at questions.TheVariants.Panel q (limit_no call h space known w.0 w.1)
 
-  module _ (f : t ≡ false) {y y' : Yard} where
-    kept : length h.initial ≤ most → Takes call.limit (length h.initial)
-    kept = beyond_yes o.panel (length h.initial) (sym b ∙ f)
+  kept : t ≡ false → length h.initial ≤ most → Takes call.limit (length h.initial)
+  kept f = beyond_yes o.panel (length h.initial) (sym b ∙ f)
 
+  module _ (f : t ≡ false) {y y' : Yard} where
     pub refused_way : {q : Refusal} → Examines h (Err q) y y' → Plans (call_of o) h space (Err q) space
     refused_way {q} w =
-        refusal q (sheet_no call h space known (number_of q.question) q.place (limit_kept call.limit h kept (number_of q.question) q.place (refused_by w.checks refl)))
+        refusal q (sheet_no call h space known (number_of q.question) q.place (limit_kept call.limit h (kept f) (number_of q.question) q.place (refused_by w.checks refl)))
 
     module _ (w : Examines h (Ok tt) y y') where
       accept : Accepted h
       accept = accepted w.checks refl
 
       pub room_way : {q : Refusal} → length space < 4 * length h.initial → q ≡ record { question = questions.TheVariants.Space; place = 0 } → Plans (call_of o) h space (Err q) space
-      room_way l q = refusal_at questions.TheVariants.Space q (room_no call h space known (kept accept.small) accept l)
+      room_way l q = refusal_at questions.TheVariants.Space q (room_no call h space known (kept f accept.small) accept l)
 
       -- ---- the plan
 
@@ -154,7 +154,7 @@ module _ (o : calls.Call) (h : Sheet) (space : List ℕ) (by : declared.Method) 
         v = u.ran
 
         yes : first_no (plan_questions call h space) ≡ all_yes
-        yes = (plan_accepts call h space).1 (record { method = known; takes = kept accept.small; accepted = accept; room = l })
+        yes = (plan_accepts call h space).1 (record { method = known; takes = kept f accept.small; accepted = accept; room = l })
 
         given : outcome_by (method_of o.method) h.initial (goal_state h) ≡ plan v.moves
         given = ap (λ i. outcome_by i h.initial (goal_state h)) method ∙ v.outcome

@@ -2,6 +2,7 @@
 -- Assumes nothing.
 use Prim.Native.Nat.{ℕ, ◌*◌, ◌≤◌}
 use mathlib.Core.Path.{◌≡◌, refl, sym, ap, ap₂, ◌∙◌}
+use mathlib.Core.Logic.{◌⊎◌, inl, inr}
 use mathlib.Core.Bool.{true, false, true≢false}
 use mathlib.Core.List.{List, ◌++◌}
 use native.Mathlib.Omega.{arith}
@@ -31,7 +32,8 @@ use Rattle.runs.proofs.RunningLaws.{plans_written}
 use Rattle.runs.proofs.LoopRunLaws.{ran_steppable}
 use Rattle.runs.proofs.LentLaws as lent
 use Rattle.runs.proofs.LentLaws.{twice, run_plan, steps_flat}
-use Rattle.planner.specs.Answers.{mode_of, is_us, Solvable, Ran, Solved}
+use Rattle.planner.specs.declared.Method as declared
+use Rattle.planner.specs.Answers.{as_method, mode_of, is_us, Solvable, Ran, Solved}
 
 -- ---- the outcome of a method by its runs
 
@@ -47,6 +49,11 @@ unfolding outcome
 two_runs Us s g p q u e f = ap (λ o. and_then s o (λ t. iterate (building g) (fuel s) t)) e ∙ ap (precede p) f
 two_runs Gn1 s g p q u e f = absurd (true≢false (sym u))
 two_runs Gn2 s g p q u e f = absurd (true≢false (sym u))
+
+-- GN1 and GN2 are not US
+pub not_us : (m : declared.Method) → (m ≡ declared.TheVariants.Gn1) ⊎ (m ≡ declared.TheVariants.Gn2) → is_us (as_method m) ≡ false
+not_us m (inl e) = ap (λ i. is_us (as_method i)) e
+not_us m (inr e) = ap (λ i. is_us (as_method i)) e
 
 -- clearing keeps what building keeps
 flat_first : (m : Method) → is_us m ≡ true → walksᵇ (mode_of m) ≡ false
