@@ -1,5 +1,5 @@
 -- Looking at a state in which no block is ready: nothing waits and nothing is misplaced, or the loop is written. Assumes nothing.
-use Prim.Native.Nat.{ℕ, ◌-◌, ◌≤◌, ◌<◌}
+use Prim.Native.Nat.{ℕ, ◌*◌, ◌-◌, ◌≤◌, ◌<◌}
 use mathlib.Core.Path.{◌≡◌, refl, sym, ap, ◌∙◌}
 use mathlib.Core.Logic.{◌≢◌}
 use mathlib.Core.Bool.{false, cond}
@@ -8,6 +8,8 @@ use native.Mathlib.Omega.{arith}
 use borrow.Author.Tests.{eq-eqb, ne_eqb}
 use lib.ListN.{length, drop, length-drop}
 use lib.Seq.{length-take-le}
+use mir.Syntax.{w64}
+use mir.Val.{Fits}
 use Rattle.std.specs.Prelude.{Some, None}
 use Rattle.std.specs.declared.ops.Range.{Range}
 use Rattle.lists.specs.Search.{lowest, nonzero}
@@ -71,6 +73,9 @@ module _ {y : Yard} {z : Sets} {out : List ℕ} (w : Lookable y z out) where
 
       pub part_within : r.end ≤ length (seen_of y')
       part_within = omega (arith, here_is.within, w.looks.kept.known.small, w.looks.kept.known.sized.rooms 7 (omega arith), v.within.long 7)
+
+      pub part_scaled : Fits w64 (r.start * 2)
+      part_scaled = record { fits = omega (arith, here_is.ordered, here_is.within, w.looks.kept.known.small) }
 
       part_length : length (part (seen_of y') r) ≡ r.end - r.start
       part_length = length-take-le (r.end - r.start) (drop r.start (seen_of y')) (omega (arith, length-drop r.start (seen_of y'), part_within))

@@ -1,4 +1,5 @@
 -- The deadlock test whole: what each way out of `deadlock` answers, and what a checked sheet with room lends to `test`. Assumes nothing.
+use Rattle.std.specs.Prelude.{Option, None, Some, Ok, Err}
 use Prim.Native.Nat.{ℕ, ◌*◌, ◌≤◌, ◌<◌}
 use mathlib.Core.Path.{◌≡◌, refl, sym, ap, ap₂, ◌∙◌, subst}
 use mathlib.Core.Logic.{◌⊎◌, inl, inr, ◌≢◌}
@@ -22,7 +23,6 @@ use Rattle.blocks.proofs.GoalStateLaws.{completed_same, bounded}
 use Rattle.blocks.proofs.SheetLaws.{behind_front, behind_late, deadlock_refuses, deadlock_refusal, deadlock_accepts}
 use Rattle.blocks.proofs.DeadlockTestLaws.{rows_length}
 use Rattle.blocks.proofs.Theorems.{theorems}
-use Rattle.lists.specs.Search.{nonzero}
 use Rattle.lists.proofs.NonzeroLaws.{nonzero_none, nonzero_some}
 use Rattle.refusals.specs.Refusals.{number_of}
 use Rattle.refusals.specs.declared.Refusal.{Refusal}
@@ -84,11 +84,11 @@ module _ (h : Sheet) (space : List ℕ) {y y' : Yard} where
       yes : first_no (deadlock_questions h space) ≡ all_yes
       yes = (deadlock_accepts h space).1 (record { accepted = accept; room = r })
 
-      count : ℕ
+      abbrev count : ℕ
       count = length (deadlock_loop s g)
 
       given : record { number = 0; place = 0; count = count } ≡ deadlock_answer h space
-      unfolding deadlock_answer count
+      unfolding deadlock_answer
       given = sym (ap (λ a. tested a (deadlock_loop s g)) yes)
 
       lent : space' ≡ deadlock_space h space
@@ -97,7 +97,6 @@ module _ (h : Sheet) (space : List ℕ) {y y' : Yard} where
 
       -- nothing is deadlocked
       free_way : count ≡ 0 → TestsDeadlock h space (Ok None) space'
-      unfolding count
       free_way z =
           record {
             asked = sym yes;
@@ -109,7 +108,7 @@ module _ (h : Sheet) (space : List ℕ) {y y' : Yard} where
 
       -- the blocks shown are
       shown_way : count ≢ 0 → TestsDeadlock h space (Ok (Some count)) space'
-      unfolding deadlock_rows count
+      unfolding deadlock_rows
       shown_way n =
           record {
             asked = sym yes;
@@ -132,7 +131,6 @@ module _ (h : Sheet) (space : List ℕ) {y y' : Yard} where
           front = ap₂ (λ i l. take i l) long u.written ∙ overwrite_front (deadlock_rows s g) space
 
       told : TestsDeadlock h space (Ok a) space'
-      unfolding count
       told = by (same? count 0)
         where
           by : (count ≡ 0) ⊎ (count ≢ 0) → TestsDeadlock h space (Ok a) space'
