@@ -36,9 +36,6 @@ pub returns-then-input-end : goal.returns-then-input-end
 returns-then-input-end c =
     tail_way (whole_read c.read_sheet.ensures c.in_ok-n.ensures.cases) c.length_count-k.ensures.0 (λ e. omega arith) c.refused_at-tail.ensures c.refused.ensures _
 
-pub plan-requires : goal.plan-requires
-plan-requires c = ?
-
 pub returns : goal.returns
 returns c =
     plan_way (whole_read c.read_sheet.ensures c.in_ok-n.ensures.cases) c.length_count-k.ensures.0 _ (omega arith) c.requires c.then_some.ensures refl c.plan.ensures
