@@ -1,11 +1,10 @@
 -- The bytes that are wanted fit behind those that are there. Assumes nothing.
 use Prim.Native.Nat.{ℕ, ◌+◌, ◌-◌, ◌^◌, ◌≤◌, ◌<◌}
-use mathlib.Core.Path.{◌≡◌, refl, sym, ◌∙◌, ap}
-use mathlib.Core.Logic.{◌≢◌}
-use mathlib.Core.List.{List, ◌++◌}
+use mathlib.Core.Path.{◌≡◌, refl, sym}
+use mathlib.Core.List.{List}
 use native.Mathlib.Omega.{arith}
 use lib.ListN.{length, take}
-use lib.Seq.{length-take-le, take-append_seam}
+use lib.Seq.{length-take-le}
 use Rattle.responder.specs.Wanted.{wanted}
 use Rattle.responder.specs.Bounds.{enough}
 use Rattle.responder.proofs.SizeLaws.{enough_is}
