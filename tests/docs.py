@@ -369,11 +369,15 @@ class Names:
             for name in re.findall(r"\bfn (\w+)", text):
                 self.functions.add((crate, name))
                 self.of[crate].add(name)
-            self.of[crate] |= set(re.findall(r"\b(?:enum|struct|const) (\w+)", text))
+            types = set(re.findall(r"\b(?:enum|struct|const) (\w+)", text))
+            self.of[crate] |= types
+            self.parts |= {(crate, name) for name in types}
             for kind, body in re.findall(r"\benum (\w+)[^{]*\{(.*?)\n\}", text, re.S):
                 self.parts |= {(kind, case) for case in re.findall(r"^\s+(\w+)", body, re.M)}
-            for kind, body in re.findall(r"\bimpl (\w+)[^{]*\{(.*?)\n\}", text, re.S):
-                self.parts |= {(kind, name) for name in re.findall(r"\bfn (\w+)", body)}
+            for kind, body in re.findall(r"^impl(?:<[^>]*>)? (?:[^{]* for )?(\w+)[^{]*\{(.*?)\n\}", text, re.S | re.M):
+                methods = re.findall(r"\bfn (\w+)", body)
+                self.parts |= {(kind, name) for name in methods}
+                self.of[crate] |= {f"{kind}::{name}" for name in methods}
         self.of[crate] |= {path.stem for path in home.glob("must-fail/*.edit")}
         self.of[crate] |= {path.stem for path in (ROOT / "tests" / "edits" / crate).glob("*.edit")}
 

@@ -27,6 +27,9 @@ module _ (n k : ℕ) where
       here : get_or table at 0 ≡ ways even k
       here = t.each (n / 2) k (omega arith)
 
+      pub even_count : n % 2 ≡ 0 → get_or table at 0 ≡ ways n k
+      even_count e = here ∙ ap (λ m. ways m k) (let i : even ≡ n = omega arith in i)
+
       module _ (o : n % 2 ≢ 0) where
         next : get_or table (at + 1) 0 ≡ ways even (k + 1)
         next = ap (λ i. get_or table i 0) (let i : at + 1 ≡ place (n / 2) (k + 1) = omega arith in i) ∙ t.each (n / 2) (k + 1) (omega (arith, o))

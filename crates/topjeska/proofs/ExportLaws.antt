@@ -20,16 +20,16 @@ use Rattle.topjeska.specs.declared.DeadlockAnswer.{DeadlockAnswer}
 
 -- ---- planning
 
-pub plan_exported : {call call' : Call} {h h' : Sheet} {space : List ℕ} {r : planner.Answer} {space' : List ℕ} {z : PlanAnswer} → call ≡ call' → h ≡ h'
-    → planner.Plans call h space r space' → as_plan z ≡ planner.answer_of r → ExportsPlan call' h' space z space'
-plan_exported {call} {call'} {h} {h'} {space} {r} {space'} {z} i j w e =
-    rw (← i, ← j) (record {
+plan_export : {call : Call} {h : Sheet} {space : List ℕ} {r : planner.Answer} {space' : List ℕ} {z : PlanAnswer} → planner.Plans call h space r space'
+    → as_plan z ≡ planner.answer_of r → ExportsPlan call h space z space'
+plan_export {call} {h} {space} {r} {space'} {z} w e =
+    record {
       answer = e ∙ w.answer;
       lent = w.lent;
       told = λ y. w.told (plan) (made r refl y);
       promise = λ y. w.promise (plan) (made r refl y);
       head_count = λ y. w.head_count (plan) (made r refl y);
-    })
+    }
   where
     plan : Planned
     plan = record { count = z.count; misplaced = z.misplaced }
@@ -43,6 +43,11 @@ plan_exported {call} {call'} {h} {h'} {space} {r} {space'} {z} i j w e =
     made (Ok p) k y =
         let same : as_plan z ≡ planner.answer_of (Ok p) = e ∙ ap planner.answer_of (sym k) in
         sym k ∙ ap₂ (λ c m. Ok (record { count = c; misplaced = m })) (sym (ap (λ o. o.count) same)) (sym (ap (λ o. o.misplaced) same))
+
+-- the same of the call and the sheet that the options give
+pub plan_exported : {call call' : Call} {h h' : Sheet} {space : List ℕ} {r : planner.Answer} {space' : List ℕ} {z : PlanAnswer} → call ≡ call' → h ≡ h'
+    → planner.Plans call h space r space' → as_plan z ≡ planner.answer_of r → ExportsPlan call' h' space z space'
+plan_exported i j w e = rw (← i, ← j) (plan_export w e)
 
 -- ---- the deadlock test
 
