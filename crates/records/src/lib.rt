@@ -194,7 +194,5 @@ fn put_field(bytes: &mut [u8], at: usize, value: u16)
     requires { at + 1 < length bytes.old }
     ensures { bytes.new ≡ sets bytes.old at (field_bytes (value ∷ [])) }
 {
-    let [high, low] = value.to_be_bytes();
-    bytes[at] = high;
-    bytes[at + 1] = low;
+    bytes[at..at + 2].copy_from_slice(&value.to_be_bytes());
 }
