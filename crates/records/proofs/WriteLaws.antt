@@ -1,9 +1,10 @@
 -- Writing one record: the stores of the code are the bytes of the record at its place. Assumes nothing.
-use Prim.Native.Nat.{ℕ, suc, ◌+◌, ◌*◌, ◌≤◌}
-use mathlib.Core.Path.{◌≡◌, refl, sym, ◌∙◌, ap}
+use Prim.Native.Nat.{ℕ, suc, ◌+◌, ◌*◌, ◌/◌, ◌%◌, ◌≤◌, ◌<◌}
+use mathlib.Core.Path.{◌≡◌, refl, sym, ◌∙◌, ap, ap₂}
 use mathlib.Core.List.{List, [], ◌∷◌}
 use native.Mathlib.Omega.{arith}
 use native.Mathlib.Numerals.{add-one}
+use borrow.Rule.Slice.PartMut.{put_mid}
 use lib.ListN.{length, take, set}
 use lib.Seq.{sets}
 use Rattle.records.specs.Marks.{mark_of, size}
@@ -42,3 +43,14 @@ module _ (k : Kind) {m : Mark} (e : m ≡ mark_of k) (at : ℕ) (l : List ℕ) (
   unfolding record_bytes
   put_two {l₁} {l₂} s f t =
       record { after = ap (λ (j : ℕ). at + j) whole; written = written (t ∙ simp (s, e, sym (fields_of k e) ∙ f, add-one at, up_two, up_four)) }
+
+-- ---- writing one field
+
+-- The bytes of a number, written over two bytes of a list.
+pub field_written : (l : List ℕ) (at v : ℕ) {k : ℕ} {bytes written : List ℕ} → at + 1 < length l → v < 65536 → k ≡ 2 → bytes ≡ v / 256 % 256 ∷ v % 256 ∷ []
+    → written ≡ bytes → put_mid at k l written ≡ sets l at (field_bytes (v ∷ []))
+unfolding overwrite_at
+field_written l at v {k} {bytes} {written} room small two own all =
+    let high : v / 256 % 256 ≡ v / 256 = omega arith in
+    let same : written ≡ field_bytes (v ∷ []) = all ∙ own ∙ ap (λ i. i ∷ v % 256 ∷ []) high in
+    ap₂ (λ i w. put_mid at i l w) two same ∙ sym (sets_at at (field_bytes (v ∷ [])) l (omega arith))

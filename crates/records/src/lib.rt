@@ -53,8 +53,8 @@ pub struct Mark {
     pub fields: usize,
 }
 
-// Document 01's table and the marks of document 02, Job 3, proved to be that of specs/Marks.antt. Reader and writer take marks and numbers of fields from
-// it alone.
+// Document 01's constant table and the marks of document 02, Job 3, proved to be that of specs/Marks.antt. Reader and writer take marks and numbers of
+// fields from it alone.
 const MARKS: [Mark; 8] = [
     Mark {
         high: b'H',
@@ -98,14 +98,14 @@ const MARKS: [Mark; 8] = [
     },
 ];
 
-// The fields of a record. A kind of one field has 0 for the second.
+// The fields of a record. A kind of one field has 0 for the second, as in the definitions; an Option would be no plainer, since nobody asks it of such a kind.
 #[derive(Clone, Copy, Debug, PartialEq, Eq)]
 pub struct Fields {
     pub first: u16,
     pub second: u16,
 }
 
-// The bytes of a file and a place in them.
+// The bytes of a file and a place in them: the thin reader that document 01 names, over functions on a slice and a number.
 #[derive(Clone, Copy, Debug, PartialEq, Eq)]
 pub struct Reader<'a> {
     pub bytes: &'a [u8],

@@ -11,7 +11,7 @@ ghost use Rattle.sheets.specs.Reads.{no_entries, ReadsSheet};
 use records::{Fields, Kind, Reader};
 use rows::MOST;
 
-// A head HD, or HL: then the sheet is measured, and lengths are asked for.
+// A head HD, or HL: then the sheet is measured, and lengths are asked for. `measured` is a mark of the file, and no flag beside a value.
 #[derive(Clone, Copy, Debug, PartialEq, Eq)]
 pub struct Head {
     pub measured: bool,
