@@ -47,14 +47,20 @@ enum Operation {
     Deadlock,
 }
 
-impl Operation {
-    fn numbered(number: u16) -> Option<Self> {
+// A number that is none of an operation.
+#[derive(Clone, Copy, Debug, PartialEq, Eq)]
+struct UnknownOperation;
+
+impl TryFrom<u16> for Operation {
+    type Error = UnknownOperation;
+
+    fn try_from(number: u16) -> Result<Self, UnknownOperation> {
         match number {
-            1 => Some(Operation::Check),
-            2 => Some(Operation::Replay),
-            3 => Some(Operation::Plan),
-            4 => Some(Operation::Deadlock),
-            _ => None,
+            1 => Ok(Operation::Check),
+            2 => Ok(Operation::Replay),
+            3 => Ok(Operation::Plan),
+            4 => Ok(Operation::Deadlock),
+            _ => Err(UnknownOperation),
         }
     }
 }
@@ -101,12 +107,12 @@ fn read_case<'a>(
     let mut head = [0; 4];
     unpack(&bytes, &mut head);
     let [operation, initial, goal, third] = head;
-    let operation = Operation::numbered(operation)?;
     let initial = usize::from(initial);
     let goal = usize::from(goal);
     let third = usize::from(third);
     let nums = nums.get_mut(..initial + goal + third)?;
     fill(stdin, nums, chunk).ok()?;
+    let operation = Operation::try_from(operation).ok()?;
     let (initial, others) = nums.split_at(initial);
     let (goal, third) = others.split_at(goal);
     Some(Case {
