@@ -40,12 +40,11 @@ pub fn test(initial: &[u16], goal: &[u16], yard: &mut Yard, out: &mut [u16]) -> 
 {
     let mut room = [0u16; MOST];
     let cur = &mut room[..initial.len()];
-    let mut sets = Sets::new();
     let mut moves = [0u16; 4 * MOST];
-    statuses::begin(Mode::Building, initial, goal, cur, yard, &mut sets);
+    let mut sets = statuses::begin(Mode::Building, initial, goal, cur, yard);
     runs::run(Mode::Building, cur, goal, yard, &mut sets, &mut moves, 0);
     sets.loose.lowest()?;
-    statuses::fit(Mode::Gn2, cur, goal, yard, &mut sets);
+    let sets = statuses::fit(Mode::Gn2, cur, goal, yard);
     look(yard, &sets, out)
 }
 

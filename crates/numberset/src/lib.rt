@@ -12,7 +12,7 @@ use std::marker::Model;
 const WORDS: usize = 65;
 
 // A set of numbers below 4,096. Contracts see its words, of which callers know `member` alone.
-#[derive(Drop)]
+#[derive(Clone, Copy)]
 pub struct NumberSet {
     words: [u64; WORDS],
 }
@@ -21,6 +21,8 @@ impl Model for NumberSet {
     ghost Value = { List ℕ };
 
     ghost view = { λ s. s.words };
+
+    ghost inverse = { λ l. record { words = l } };
 
     ghost invariant = { λ s. Valid s.words };
 }

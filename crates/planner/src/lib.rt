@@ -9,7 +9,7 @@ ghost use Rattle.planner.specs.Answers.{as_method, mode_of, Names, call_of, beyo
 use lengths::Sheet;
 use refusals::{Question, Refusal};
 use rows::{MOST, ROW, ROWS, Yard};
-use statuses::{Mode, Sets};
+use statuses::Mode;
 
 // A plan that was written: how many moves it has, and how many blocks are misplaced at the start.
 #[derive(Clone, Copy, Debug, PartialEq, Eq)]
@@ -118,9 +118,8 @@ fn run_method(
 {
     let mut room = [0u16; MOST];
     let cur = &mut room[..initial.len()];
-    let mut sets = Sets::new();
     let mode = method.mode();
-    statuses::begin(mode, initial, goal, cur, yard, &mut sets);
+    let mut sets = statuses::begin(mode, initial, goal, cur, yard);
     let k = runs::run(mode, cur, goal, yard, &mut sets, out, 0);
     match method {
         Method::Us => runs::run(Mode::Building, cur, goal, yard, &mut sets, out, k),

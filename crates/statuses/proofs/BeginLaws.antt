@@ -115,3 +115,6 @@ module _ {m : Mode} {s g : State} {y y₁ : Yard} (w : Known s g y) (f : Fitted 
 
   pub kept : {z : Sets} → SetsHold m s g z → Begun m s g s y y₁ z
   kept q = record { state = refl; kept = record { known = known_fitted; sets = q; towers = f.towers }; within = f.within }
+
+pub begun : {m : Mode} {s g t : State} {y y₁ : Yard} {z : Sets} → t ≡ s → Begun m t g t y y₁ z → Begun m s g t y y₁ z
+begun {m} {s} {g} {t} {y} {y₁} {z} e q = record { state = e; kept = rw e at q.kept; within = q.within }

@@ -16,7 +16,7 @@ use numberset::NumberSet;
 use rows::{BOTTOMS, GOAL_BOTTOMS, GOAL_LOADS, LOADS, STANDS, Yard};
 
 // The sets of a run: the blocks that are ready, and those that are loose.
-#[derive(Drop)]
+#[derive(Clone, Copy)]
 pub struct Sets {
     pub ready: NumberSet,
     pub loose: NumberSet,
@@ -68,28 +68,24 @@ impl Mode {
 }
 
 // Everything that a run keeps beside the initial state, from the loads and how the blocks stand.
-pub fn begin(
-    mode: Mode,
-    initial: &[u16],
-    goal: &[u16],
-    cur: &mut [u16],
-    yard: &mut Yard,
-    sets: &mut Sets,
-)
+pub fn begin(mode: Mode, initial: &[u16], goal: &[u16], cur: &mut [u16], yard: &mut Yard) -> Sets
     requires { Beginnable initial.now goal.now cur.old yard.old }
-    ensures { Begun mode initial.now goal.now cur.new yard.old yard.new sets.new }
+    ensures { Begun mode initial.now goal.now cur.new yard.old yard.new result }
 {
-    cur.copy_from_slice(initial);
-    fit(mode, cur, goal, yard, sets);
+    // a loop: `copy_from_slice` is slower, since it compares addresses
+    for (i, &x) in initial.iter().enumerate() {
+        cur[i] = x;
+    }
+    fit(mode, cur, goal, yard)
 }
 
-// What a run keeps beside the blocks: the two sets, and the towers where it walks the loop.
-pub fn fit(mode: Mode, cur: &[u16], goal: &[u16], yard: &mut Yard, sets: &mut Sets)
+// What a run keeps beside the blocks: the two sets, which are answered, and the towers where it walks the loop.
+pub fn fit(mode: Mode, cur: &[u16], goal: &[u16], yard: &mut Yard) -> Sets
     requires { Known cur.now goal.now yard.old }
-    ensures { Begun mode cur.now goal.now cur.now yard.old yard.new sets.new }
+    ensures { Begun mode cur.now goal.now cur.now yard.old yard.new result }
 {
     fit_towers(mode, cur, goal, yard);
-    fill_sets(mode, cur, goal, yard, sets);
+    fill_sets(mode, cur, goal, yard)
 }
 
 // The towers of both states, where the run walks the loop.
@@ -107,15 +103,15 @@ fn fit_towers(mode: Mode, cur: &[u16], goal: &[u16], yard: &mut Yard)
 }
 
 // The two sets of the state.
-fn fill_sets(mode: Mode, cur: &[u16], goal: &[u16], yard: &Yard, sets: &mut Sets)
+fn fill_sets(mode: Mode, cur: &[u16], goal: &[u16], yard: &Yard) -> Sets
     requires { Known cur.now goal.now yard.now }
-    ensures { SetsHold mode cur.now goal.now sets.new }
+    ensures { SetsHold mode cur.now goal.now result }
 {
-    sets.ready.clear();
-    sets.loose.clear();
+    let mut sets = Sets::new();
     for b in 1..=cur.len() {
-        admit(mode, cur, goal, yard, sets, b);
+        admit(mode, cur, goal, yard, &mut sets, b);
     }
+    sets
 }
 
 // One move of a method: the state and all that is kept beside it.

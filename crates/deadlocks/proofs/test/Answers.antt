@@ -9,20 +9,20 @@ use Rattle.deadlocks.proofs.test.Goals as goal
 pub slice_bounds-cur-end : goal.slice_bounds-cur-end
 slice_bounds-cur-end c = search (rules, length-take-le)
 
-pub begin-requires : goal.begin-requires
-begin-requires c = may_begin c.requires (search (rules, length-take-le))
+pub begin-sets-requires : goal.begin-sets-requires
+begin-sets-requires c = may_begin c.requires (search (rules, length-take-le))
 
 pub run-requires : goal.run-requires
 run-requires c = search (rules, first_steppable)
 
 pub lowest-requires : goal.lowest-requires
-lowest-requires c = loose_may c.requires c.begin.ensures c.run.ensures
+lowest-requires c = loose_may c.requires c.begin-sets.ensures c.run.ensures
 
 pub returns-in_err-lowest : goal.returns-in_err-lowest
-returns-in_err-lowest c = rw c.from_residual.ensures (clean_way c.requires c.begin.ensures c.run.ensures c.in_err-lowest.ensures)
+returns-in_err-lowest c = rw c.from_residual.ensures (clean_way c.requires c.begin-sets.ensures c.run.ensures c.in_err-lowest.ensures)
 
 pub look-requires : goal.look-requires
-look-requires c = lookable c.requires c.begin.ensures c.run.ensures (c.run.auto.cur ∙ ap length c.begin.ensures.state) c.fit.ensures
+look-requires c = lookable c.requires c.begin-sets.ensures c.run.ensures (c.run.auto.cur ∙ ap length c.begin-sets.ensures.state) c.fit-sets.ensures
 
 pub returns : goal.returns
-returns c = look_way c.requires c.begin.ensures c.run.ensures (c.run.auto.cur ∙ ap length c.begin.ensures.state) c.fit.ensures c.look.ensures
+returns c = look_way c.requires c.begin-sets.ensures c.run.ensures (c.run.auto.cur ∙ ap length c.begin-sets.ensures.state) c.fit-sets.ensures c.look.ensures
