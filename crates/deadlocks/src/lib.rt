@@ -44,7 +44,7 @@ pub fn test(initial: &[u16], goal: &[u16], yard: &mut Yard, out: &mut [u16]) -> 
     let mut sets = statuses::begin(Mode::Building, initial, goal, cur, yard);
     runs::run(Mode::Building, cur, goal, yard, &mut sets, &mut moves, 0);
     sets.loose.lowest()?;
-    let sets = statuses::fit(Mode::Gn2, cur, goal, yard);
+    sets = statuses::fit(Mode::Gn2, cur, goal, yard);
     look(yard, &sets, out)
 }
 

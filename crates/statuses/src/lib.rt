@@ -85,7 +85,9 @@ pub fn fit(mode: Mode, cur: &[u16], goal: &[u16], yard: &mut Yard) -> Sets
     ensures { Begun mode cur.now goal.now cur.now yard.old yard.new result }
 {
     fit_towers(mode, cur, goal, yard);
-    fill_sets(mode, cur, goal, yard)
+    let mut sets = Sets::new();
+    fill_sets(mode, cur, goal, yard, &mut sets);
+    sets
 }
 
 // The towers of both states, where the run walks the loop.
@@ -103,15 +105,14 @@ fn fit_towers(mode: Mode, cur: &[u16], goal: &[u16], yard: &mut Yard)
 }
 
 // The two sets of the state.
-fn fill_sets(mode: Mode, cur: &[u16], goal: &[u16], yard: &Yard) -> Sets
-    requires { Known cur.now goal.now yard.now }
-    ensures { SetsHold mode cur.now goal.now result }
+fn fill_sets(mode: Mode, cur: &[u16], goal: &[u16], yard: &Yard, sets: &mut Sets)
+    requires known { Known cur.now goal.now yard.now }
+    requires empty { Empty sets.old.ready × Empty sets.old.loose }
+    ensures { SetsHold mode cur.now goal.now sets.new }
 {
-    let mut sets = Sets::new();
     for b in 1..=cur.len() {
-        admit(mode, cur, goal, yard, &mut sets, b);
+        admit(mode, cur, goal, yard, sets, b);
     }
-    sets
 }
 
 // One move of a method: the state and all that is kept beside it.
