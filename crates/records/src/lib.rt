@@ -124,17 +124,7 @@ impl<'a> Reader<'a> {
     pub fn record(self, kind: Kind) -> Option<Fields>
         ensures { result ≡ record_at kind self.entry.bytes.now self.entry.at }
     {
-        let at = self.at;
-        if !has_record(kind, self.bytes, at) {
-            return None;
-        }
-        let first = field_at(self.bytes, at + 2);
-        let second = if kind.mark().fields == 2 {
-            field_at(self.bytes, at + 4)
-        } else {
-            0
-        };
-        Some(Fields { first, second })
+        record_at(kind, self.bytes, self.at)
     }
 
     // The first fields of the records of a kind that stand one after another from the reader's place on, as many as the lent list takes, into that list.
@@ -142,16 +132,7 @@ impl<'a> Reader<'a> {
     pub fn entries(self, kind: Kind, out: &mut [u16]) -> usize
         ensures { ReadEntries kind self.entry.bytes.now self.entry.at out.old result out.new }
     {
-        let step = kind.size();
-        let mut reader = self;
-        for (i, entry) in out.iter_mut().enumerate() {
-            let Some(fields) = reader.record(kind) else {
-                return i;
-            };
-            *entry = fields.first;
-            reader.at += step;
-        }
-        out.len()
+        entries_at(kind, self.bytes, self.at, out)
     }
 }
 
@@ -168,6 +149,38 @@ pub fn put_record(kind: Kind, first: u16, second: u16, bytes: &mut [u8], at: usi
         put_field(bytes, at + 4, second);
     }
     at + kind.size()
+}
+
+// The record of a kind at a place, if one stands there.
+fn record_at(kind: Kind, bytes: &[u8], at: usize) -> Option<Fields>
+    ensures { result ≡ record_at kind bytes.now at }
+{
+    if !has_record(kind, bytes, at) {
+        return None;
+    }
+    let first = field_at(bytes, at + 2);
+    let second = if kind.mark().fields == 2 {
+        field_at(bytes, at + 4)
+    } else {
+        0
+    };
+    Some(Fields { first, second })
+}
+
+// The entries of records of a kind from a place on, into the lent list; the answer is how many there are.
+fn entries_at(kind: Kind, bytes: &[u8], at: usize, out: &mut [u16]) -> usize
+    ensures { ReadEntries kind bytes.now at out.old result out.new }
+{
+    let step = kind.size();
+    let mut place = at;
+    for (i, entry) in out.iter_mut().enumerate() {
+        let Some(fields) = record_at(kind, bytes, place) else {
+            return i;
+        };
+        *entry = fields.first;
+        place += step;
+    }
+    out.len()
 }
 
 // Whether a record of a kind stands at a place: all its bytes are there, with its own mark.

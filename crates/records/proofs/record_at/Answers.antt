@@ -1,7 +1,7 @@
--- `Reader::record` meets its contract. Assumes nothing.
+-- `record_at` meets its contract. Assumes nothing.
 use borrow.Author.Rules.{rules}
 use Rattle.records.proofs.ReadLaws.{room_one, room_two, no_record, one_field, two_fields}
-use Rattle.records.proofs.Reader.record.Goals as goal
+use Rattle.records.proofs.record_at.Goals as goal
 
 pub returns-then-not-has_record : goal.returns-then-not-has_record
 returns-then-not-has_record c = search (rules, no_record)
