@@ -3,7 +3,7 @@ use Prim.Native.Nat.{ℕ, ◌+◌, ◌≤◌}
 use mathlib.Core.Path.{◌≡◌, refl, sym, ◌∙◌, ap, ap₂, subst}
 use mathlib.Core.Logic.{inl, inr}
 use mathlib.Core.Bool.{Bool, cond}
-use mathlib.Core.List.{List}
+use mathlib.Core.List.{List, []}
 use Rattle.std.specs.Prelude.{Option, Some, None, Ok, Err}
 use native.Mathlib.Omega.{arith}
 use borrow.Author.Tests.{eq-eqb}
@@ -18,9 +18,10 @@ use Rattle.sheets.specs.declared.Whole.{Whole}
 use Rattle.sheets.specs.declared.Unread.TheVariants.{Headless, Long, Broken}
 use Rattle.sheets.specs.declared.Entries.{Entries}
 use Rattle.sheets.specs.Sheets.{there, head_at, length_count, nows, goals, lengths, end_at, Sheet, whole_sheet, body_at, sheet_by, sheet_at}
-use Rattle.sheets.specs.Sheets.{goals_behind, goals_read, lengths_behind, lengths_read}
+use Rattle.sheets.specs.Sheets.{nows_read, goals_behind, goals_read, lengths_behind, lengths_read}
 use Rattle.sheets.specs.Reads.{ReadsSheet}
 use Rattle.sheets.specs.Cases.{IsLong, RecordMissing, IsBroken, IsWhole, Says}
+use Rattle.sheets.proofs.HeadLaws.{headless_nows, headless_goals, headless_lengths, long_nows, long_goals, long_lengths}
 use Rattle.sheets.proofs.HeadLaws.{small_nows, small_goals, small_lengths}
 
 module _ (bytes : List ℕ) (at : ℕ) where
@@ -101,6 +102,26 @@ module _ {bytes : List ℕ} {at : ℕ} {lent : Entries} {r : Sheet} {lent' : Ent
 
   pub broken : {m p : ℕ} → r ≡ Err (Broken m p) → IsBroken bytes at m p
   broken e = says e
+
+  -- ---- the lent lists
+
+  -- with nothing read the lists are as they were
+  kept : nows_read bytes at ≡ [] → goals_read bytes at ≡ [] → lengths_read bytes at ≡ []
+      → (lent'.initial ≡ lent.initial) × (lent'.goal ≡ lent.goal) × (lent'.lengths ≡ lent.lengths)
+  kept e f g = (
+    w.initial_after ∙ ap (λ l. overwrite l lent.initial) e,
+    w.goal_after ∙ ap (λ l. overwrite l lent.goal) f,
+    w.lengths_after ∙ ap (λ l. overwrite l lent.lengths) g,
+  )
+
+  -- A head that is not there, and one that says too many, leave them as they were.
+  pub headless_kept : r ≡ Err Headless → (lent'.initial ≡ lent.initial) × (lent'.goal ≡ lent.goal) × (lent'.lengths ≡ lent.lengths)
+  headless_kept e = let h = headless e in kept (headless_nows bytes at h) (headless_goals bytes at h) (headless_lengths bytes at h)
+
+  pub long_kept : {m : ℕ} → r ≡ Err (Long m) → (lent'.initial ≡ lent.initial) × (lent'.goal ≡ lent.goal) × (lent'.lengths ≡ lent.lengths)
+  long_kept e =
+      let f = long e in
+      kept (long_nows bytes at f.head f.long) (long_goals bytes at f.head f.long) (long_lengths bytes at f.head f.long)
 
   -- Every entry of a whole sheet stands in its list.
   module _ {s : Whole} (f : r ≡ Ok s) where
