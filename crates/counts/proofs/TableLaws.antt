@@ -5,10 +5,10 @@ use mathlib.Core.Bool.{Bool, true, ◌&&◌, and-eq-true_iff}
 use mathlib.Core.List.{List}
 use Prim.Native.Nat.{ℕ, zero, suc, ◌+◌, ◌-◌, ◌*◌, ◌≤◌, ◌<◌}
 use native.Mathlib.Omega.{arith}
-use lib.Dec.{eqb, leb}
+use lib.Dec.{eqb, leb, ltb}
 use lib.ListN.{length}
 use Rattle.lists.specs.Search.{count}
-use Rattle.lists.proofs.ReflectLaws.{from_true, eqb_reflects, leb_reflects, same?}
+use Rattle.lists.proofs.ReflectLaws.{from_true, eqb_reflects, leb_reflects, ltb_reflects, same?}
 use Rattle.counts.specs.Ways.{ways, held}
 use Rattle.counts.specs.Table.{place, entry, EvenAt, EvenCounts}
 use Rattle.counts.proofs.WaysLaws.{ways_step}
@@ -36,6 +36,9 @@ pub triangle_at : (P : ℕ → ℕ → Bool) → triangle P ≡ true → (j k : 
 triangle_at P e j k h = below_at (P j) (17 - 2 * j) (below_at (λ i. below (P i) (17 - 2 * i)) 9 e j (omega arith)) k (omega arith)
 
 -- ---- places
+
+pub place_below : (j k : ℕ) → 2 * j + k ≤ held → place j k < 81
+place_below j k h = from_true (ltb_reflects (place j k) 81) (triangle_at (λ i m. ltb (place i m) 81) refl j k h)
 
 -- the row of a place: of the rows 1 to 8 as many begin there or before
 abbrev row : ℕ → ℕ

@@ -1,7 +1,8 @@
 -- The options of an operation: the bits of one number. A bit that is not named is not looked at, and without its bit a list is not. Assumes nothing.
-use Rattle.std.specs.Prelude.{ℕ, ◌/◌, ◌%◌, ◌≡◌, Bool, cond, List, eqb}
-use Rattle.std.proofs.Math.Option.{none, some}
+use Rattle.std.specs.Prelude.{ℕ, ◌/◌, ◌%◌, ◌≡◌, Bool, List, eqb}
+use Rattle.std.proofs.Math.Option.{some}
 use Rattle.blocks.specs.State.{State}
+use Rattle.blocks.specs.Length.{given}
 use Rattle.blocks.specs.Sheet.{Sheet, measured_by, plain, Call, office, panel}
 use Rattle.planner.specs.Answers.{call_of}
 
@@ -19,7 +20,7 @@ option_set options bit = eqb (options / bit % 2) 1
 
 -- The sheet of the lists, and how planning is asked, by the options.
 abbrev pub sheet_for : ℕ → State → State → List ℕ → Sheet
-sheet_for options s g l = measured_by (cond (option_set options lengths_bit) (some l) none) s g
+sheet_for options s g l = measured_by (given (option_set options lengths_bit) l) s g
 
 abbrev pub call_for : ℕ → ℕ → Call
 call_for options m = call_of (record { method = m; panel = option_set options panel_bit })
