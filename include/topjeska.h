@@ -63,7 +63,7 @@ extern "C" {
  *     replay                  44 KiB
  *     planning                84 KiB
  *     planning by the panel   84 KiB
- *     deadlock test          115 KiB
+ *     deadlock test          117 KiB
  *     training                 6 KiB */
 #define TOPJESKA_STACK_BYTES 163840u
 
